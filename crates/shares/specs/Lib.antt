@@ -1,0 +1,6 @@
+-- What a reader must believe is Model; the other files show what follows from it.
+pub mod Model
+pub mod Lists
+pub mod Capacity
+pub mod Optimal
+pub mod Least
