@@ -1,7 +1,7 @@
 -- The capacity of a window grows with the window and with the nodes, and by how much at most.
 use mathlib.Core.Path.{_≡_, refl, ap, sym, subst}
 use Prim.Native.Nat.{ℕ, zero, suc, _+_, _*_, _-_, _/_, _≤_, _<_}
-use native.Mathlib.Nat.{le-div-iff-mul-le, div-mul-le-self, mul-le-mul-left, mul-le-mul-right, add-sub-of-le, div-le-self}
+use native.Mathlib.Nat.{le-div-iff-mul-le, div-mul-le-self, mul-le-mul-left, mul-le-mul-right, add-sub-of-le, div-le-self, div-eq-of-lt, div-zero, le-add-right}
 use native.Mathlib.Decide.{decLe}
 use native.Mathlib.Omega.{arith}
 use Rattle.shares.specs.declared.Costs.{Costs}
@@ -13,6 +13,24 @@ shorter w v g e d m l h = omega arith
 
 shorter′ : (w v f e d m l : ℕ) → w ≤ v + d * m → w - (l + f * m) ≤ v - (l + (f + e) * m) + (d + e) * m
 shorter′ w v f e d m l h = omega arith
+
+-- Where not even 1 unit fits, the first share is 0.
+pub first-none : (c : Costs) (w : ℕ) → w - (c .link + c .node) < c .send + c .compute → first c w ≡ 0
+unfolding first
+first-none c w h = div-eq-of-lt h
+
+-- Nor is there a share where a unit costs nothing.
+pub first-free : (c : Costs) (w : ℕ) → c .send + c .compute ≡ 0 → first c w ≡ 0
+unfolding first
+first-free c w h = rw h (div-zero (w - (c .link + c .node)))
+
+-- What a first share takes on the link is within the window, or it is one setup alone.
+pub first-used : (c : Costs) (w : ℕ) → first c w * c .send ≤ w - (c .link + c .node)
+unfolding first
+first-used c w =
+    let x = w - (c .link + c .node) in
+    let e = c .send + c .compute in
+    omega (arith, div-mul-le-self x e, mul-le-mul-left (x / e) (le-add-right (c .send) (c .compute)))
 
 module _ (c : Costs) (sends : 1 ≤ c .send) where
   -- A share that fits the window is at most the first share.

@@ -1,7 +1,7 @@
 -- The fewest nodes, the earliest finish, and the shares that are booked: each is the least there is, and the shares are exact.
 use mathlib.Core.Path.{_≡_, refl, ap, sym, subst, _∙_}
 use mathlib.Core.List.{List, [], _∷_}
-use mathlib.Core.Bool.{Bool, true, false}
+use mathlib.Core.Bool.{Bool, true, false, cond}
 use mathlib.Core.Logic.{_↔_}
 use Prim.Native.Nat.{ℕ, zero, suc, _+_, _*_, _-_, _≤_, _<_}
 use native.Mathlib.Nat.{le-antisymm, sub-zero}
@@ -13,7 +13,7 @@ use lib.ListN.{length}
 use Rattle.shares.specs.declared.Costs.{Costs}
 use Rattle.shares.specs.declared.Fewest.{Fewest}
 use Rattle.shares.specs.declared.Fewest.the-variants.{Nodes, None}
-use Rattle.shares.specs.Model.{finish, sum, capacity, greedy, pick, orElse, fewest, earliest}
+use Rattle.shares.specs.Model.{finish, sum, capacity, greedy, orElse, fewest, earliest}
 use Rattle.shares.specs.Lists.{All, Positive, NoLarger}
 use Rattle.shares.specs.Capacity.{slack, longer, more-nodes, at-most-window}
 use Rattle.shares.specs.Optimal.{optimal, greedy-ends, greedy-sum, greedy-largest, greedy-length, greedy-positive}
@@ -52,7 +52,7 @@ module _ (c : Costs) (sends : 1 ≤ c .send) where
   earliest-within n z zero = omega arith
   earliest-within n z (suc w) = go (leb z (capacity c n w)) (earliest-within n z w)
     where
-      go : (b : Bool) → earliest c n z w ≤ w → pick b (earliest c n z w) (suc w) ≤ suc w
+      go : (b : Bool) → earliest c n z w ≤ w → cond b (earliest c n z w) (suc w) ≤ suc w
       go true h = omega arith
       go false h = omega arith
 
@@ -62,7 +62,7 @@ module _ (c : Costs) (sends : 1 ≤ c .send) where
   earliest-is n z zero v i h = omega arith
   earliest-is n z (suc w) v i h = go (leb z (capacity c n w)) refl (earliest-is n z w v i)
     where
-      go : (b : Bool) → leb z (capacity c n w) ≡ b → (v ≤ w → earliest c n z w ≡ v) → pick b (earliest c n z w) (suc w) ≡ v
+      go : (b : Bool) → leb z (capacity c n w) ≡ b → (v ≤ w → earliest c n z w ≡ v) → cond b (earliest c n z w) (suc w) ≡ v
       go true q ih = ih (i .least w (leb-true _ _ q))
       go false q ih = elim (decLe v w) [ yes k ↦ absurd (omega (arith, longer c sends n k, i .enough, leb-false z (capacity c n w) q)) | no k ↦ omega arith ]
 
@@ -77,7 +77,7 @@ module _ (c : Costs) (sends : 1 ≤ c .send) where
   earliest-least n z (suc w) h = go (leb z (capacity c n w)) refl (earliest-least n z w)
     where
       go : (b : Bool) → leb z (capacity c n w) ≡ b → (z ≤ capacity c n w → IsEarliest c n z (earliest c n z w))
-          → IsEarliest c n z (pick b (earliest c n z w) (suc w))
+          → IsEarliest c n z (cond b (earliest c n z w) (suc w))
       go true q ih = ih (leb-true _ _ q)
       go false q ih = least-window n z w (leb-false _ _ q) h
 
@@ -112,15 +112,15 @@ module _ (c : Costs) (sends : 1 ≤ c .send) where
   unfolding fewest capacity
   told zero z w = go (leb z 0) refl
     where
-      go : (b : Bool) → leb z 0 ≡ b → Told zero z w (pick b (Nodes 0) None)
+      go : (b : Bool) → leb z 0 ≡ b → Told zero z w (cond b (Nodes 0) None)
       go true q = (omega arith, record { enough = leb-true _ _ q; least = λ j g. omega arith })
       go false q = leb-false _ _ q
   told (suc n) z w = go (fewest c n z w) (told n z w)
     where
-      last : (b : Bool) → leb z (capacity c (suc n) w) ≡ b → capacity c n w < z → Told (suc n) z w (pick b (Nodes (suc n)) None)
+      last : (b : Bool) → leb z (capacity c (suc n) w) ≡ b → capacity c n w < z → Told (suc n) z w (cond b (Nodes (suc n)) None)
       last true q h = (omega arith, fewest-nodes n z w h (leb-true _ _ q))
       last false q h = leb-false _ _ q
-      go : (f : Fewest) → Told n z w f → Told (suc n) z w (orElse f (pick (leb z (capacity c (suc n) w)) (Nodes (suc n)) None))
+      go : (f : Fewest) → Told n z w f → Told (suc n) z w (orElse f (cond (leb z (capacity c (suc n) w)) (Nodes (suc n)) None))
       go (Nodes k) t = (omega arith, t .1)
       go None t = last (leb z (capacity c (suc n) w)) refl t
 

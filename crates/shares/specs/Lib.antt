@@ -4,3 +4,4 @@ pub mod Lists
 pub mod Capacity
 pub mod Optimal
 pub mod Least
+pub mod Answers

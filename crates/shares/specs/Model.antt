@@ -2,10 +2,13 @@
 -- Everything here is a definition; nothing is assumed.
 -- `-` stops at 0 and `/` rounds down, so no case is needed where not even one unit fits.
 use Prim.Native.Nat.{ℕ, zero, suc, _+_, _*_, _-_, _/_, max}
-use mathlib.Core.List.{List, [], _∷_}
-use mathlib.Core.Bool.{Bool, true, false}
+use mathlib.Core.List.{List, [], _∷_, _++_}
+use mathlib.Core.Bool.{Bool, cond, _&&_}
 use lib.Dec.{leb}
+use lib.ListN.{length, replicate}
 use Rattle.shares.specs.declared.Costs.{Costs}
+use Rattle.shares.specs.declared.Share.{Share}
+use Rattle.shares.specs.declared.Shares.{Shares}
 use Rattle.shares.specs.declared.Fewest.{Fewest}
 use Rattle.shares.specs.declared.Fewest.the-variants.{Nodes, None}
 
@@ -44,6 +47,11 @@ first c w = (w - (c .link + c .node)) / (c .send + c .compute)
 unfoldable pub left : Costs → ℕ → ℕ → ℕ
 left c w a = w - (c .link + a * c .send)
 
+-- the window that is left once k nodes have taken their first shares
+unfoldable pub leftAfter : Costs → ℕ → ℕ → ℕ
+leftAfter c zero w = w
+leftAfter c (suc k) w = leftAfter c k (left c w (first c w))
+
 -- what n nodes hold: the first node its largest share, and the rest, in the same way, what it leaves
 unfoldable pub capacity : Costs → ℕ → ℕ → ℕ
 capacity c zero w = 0
@@ -61,20 +69,42 @@ greedy c (suc n) w = cut (first c w) (greedy c n (left c w (first c w)))
 
 -- ---- A job of z units
 
-abbrev pub pick : {A : Type 0} → Bool → A → A → A
-pick true a b = a
-pick false a b = b
-
 abbrev pub orElse : Fewest → Fewest → Fewest
 orElse (Nodes k) f = Nodes k
 orElse None f = f
 
 -- the fewest nodes, of at most n, that hold z units in w ticks
 unfoldable pub fewest : Costs → ℕ → ℕ → ℕ → Fewest
-fewest c zero z w = pick (leb z 0) (Nodes 0) None
-fewest c (suc n) z w = orElse (fewest c n z w) (pick (leb z (capacity c (suc n) w)) (Nodes (suc n)) None)
+fewest c zero z w = cond (leb z 0) (Nodes 0) None
+fewest c (suc n) z w = orElse (fewest c n z w) (cond (leb z (capacity c (suc n) w)) (Nodes (suc n)) None)
 
 -- the earliest finish: the least window, of at most w ticks, in which n nodes hold z units (w itself where none does)
 unfoldable pub earliest : Costs → ℕ → ℕ → ℕ → ℕ
 earliest c n z zero = 0
-earliest c n z (suc w) = pick (leb z (capacity c n w)) (earliest c n z w) (suc w)
+earliest c n z (suc w) = cond (leb z (capacity c n w)) (earliest c n z w) (suc w)
+
+-- ---- What the functions answer
+
+-- They answer for costs with a send cost and for at most 64 nodes. For anything else they say 0 units, no count of nodes,
+-- the window that they were given, and no shares.
+abbrev pub answers : Costs → ℕ → Bool
+answers c n = leb 1 (c .send) && leb n 64
+
+unfoldable pub nextOf : Costs → ℕ → Share
+nextOf c w = record { units = first c w; left = left c w (first c w) }
+
+unfoldable pub capacityOf : Costs → ℕ → ℕ → ℕ
+capacityOf c n w = cond (answers c n) (capacity c n w) 0
+
+unfoldable pub fewestOf : Costs → ℕ → ℕ → ℕ → Fewest
+fewestOf c n z w = cond (answers c n) (fewest c n z w) None
+
+unfoldable pub earliestOf : Costs → ℕ → ℕ → ℕ → ℕ
+earliestOf c n z w = cond (answers c n) (earliest c n z w) w
+
+-- a share list in an array of 64, with its count
+unfoldable pub stored : List ℕ → Shares
+stored xs = record { units = xs ++ replicate (64 - length xs) 0; count = length xs }
+
+unfoldable pub sharesOf : Costs → ℕ → ℕ → Shares
+sharesOf c n w = stored (cond (answers c n) (greedy c n w) [])

@@ -1,34 +1,47 @@
+-- `shares::first_share` meets its contract: at each early return not even 1 unit fits, or a unit costs nothing.
+use mathlib.Core.Path.{sym}
+use native.Mathlib.Nat.{sub-add-eq}
+use native.Mathlib.Omega.{arith}
 use borrow.Author.Needs.{needs}
+use Rattle.shares.specs.Model.{first}
+use Rattle.shares.specs.Capacity.{first-none, first-free}
 use Rattle.shares.proofs.first_share.Statement.{statement}
 use Rattle.shares.proofs.first_share.Tie as tie
-use Rattle.shares.proofs.first_share.Reads as reads
-use Rattle.shares.proofs.first_share.Lts as lts
+
+less-requires : tie.Need-less-requires
+less-requires c κs = search needs
+
+less-requires-2 : tie.Need-less-requires-2
+less-requires-2 c κs = search needs
 
 returns : tie.Need-returns
-returns c = search needs
+returns c = sym (first-none (c .before .before .before .before .args .costs) (c .before .before .before .before .args .window) (omega arith))
 
 returns-2 : tie.Need-returns-2
-returns-2 c = search needs
-
-returns-3 : tie.Need-returns-3
-returns-3 c = search needs
-
-returns-4 : tie.Need-returns-4
-returns-4 c = search needs
+returns-2 c = sym (first-none (c .before .before .before .before .before .before .before .args .costs) (c .before .before .before .before .before .before .before .args .window) (omega arith))
 
 add-each : tie.Need-add-each
 add-each c = search needs
 
-returns-5 : tie.Need-returns-5
-returns-5 c = search needs
+returns-3 : tie.Need-returns-3
+returns-3 c = sym (first-free (c .before .before .before .before .before .before .before .before .before .args .costs) (c .before .before .before .before .before .before .before .before .before .args .window) (c .if3 .taken))
 
 div-result : tie.Need-div-result
 div-result c = search needs
 
-returns-6 : tie.Need-returns-6
-returns-6 c = search needs
+returns-4 : tie.Need-returns-4
+unfolding first
+returns-4 c = rw (c .before .before .before .before .before .before .before .less2 .ensures, c .before .before .before .before .before .before .before .before .less .ensures, sub-add-eq)
 
 pub first-share-spec : {M : Type 1} → statement M
 first-share-spec =
     tie.close
-    (tie.spec returns returns-2 returns-3 returns-4 add-each returns-5 div-result returns-6)
+    (tie.spec
+    less-requires
+    less-requires-2
+    returns
+    returns-2
+    add-each
+    returns-3
+    div-result
+    returns-4)

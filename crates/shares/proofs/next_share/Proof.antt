@@ -1,0 +1,33 @@
+-- `shares::next_share` meets its contract. What a first share takes on the link lies within the window, or is the setup alone, so no sum wraps.
+use Prim.Native.Nat.{_+_, _*_, _-_, _≤_}
+use native.Mathlib.Omega.{arith}
+use borrow.Author.Needs.{needs}
+use Rattle.shares.specs.Model.{nextOf, left}
+use Rattle.shares.specs.Capacity.{first-used}
+use Rattle.shares.proofs.next_share.Statement.{statement}
+use Rattle.shares.proofs.next_share.Tie as tie
+
+first-share-requires : tie.Need-first-share-requires
+first-share-requires c κs = search needs
+
+mul-less : tie.Need-mul-less
+mul-less c =
+    let a = c .before .before .args in
+    let used : c .before .first-share .result * a .costs .send ≤ a .window - (a .costs .link + a .costs .node) = rw (c .before .first-share .ensures) (first-used (a .costs) (a .window)) in
+    omega arith
+
+add-less : tie.Need-add-less
+add-less c =
+    let a = c .before .before .before .args in
+    let used : c .before .before .first-share .result * a .costs .send ≤ a .window - (a .costs .link + a .costs .node) = rw (c .before .before .first-share .ensures) (first-used (a .costs) (a .window)) in
+    omega arith
+
+less-requires : tie.Need-less-requires
+less-requires c κs = search needs
+
+returns : tie.Need-returns
+unfolding nextOf left
+returns c = rw (c .less .ensures, c .before .before .before .first-share .ensures)
+
+pub next-share-spec : {M : Type 1} → statement M
+next-share-spec = tie.close (tie.spec first-share-requires mul-less add-less less-requires returns)
