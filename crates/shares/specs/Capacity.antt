@@ -2,10 +2,11 @@
 use mathlib.Core.Path.{_≡_, refl, ap, sym, subst}
 use Prim.Native.Nat.{ℕ, zero, suc, _+_, _*_, _-_, _/_, _≤_, _<_}
 use native.Mathlib.Nat.{le-div-iff-mul-le, div-mul-le-self, mul-le-mul-left, mul-le-mul-right, add-sub-of-le, div-le-self, div-eq-of-lt, div-zero, le-add-right}
+use native.Mathlib.Numerals.{add-one}
 use native.Mathlib.Decide.{decLe}
 use native.Mathlib.Omega.{arith}
 use Rattle.shares.specs.declared.Costs.{Costs}
-use Rattle.shares.specs.Model.{first, left, capacity}
+use Rattle.shares.specs.Model.{first, left, leftAfter, capacity}
 
 -- the arithmetic of one node: what is left of w and of v, where the shares are g + e and g
 shorter : (w v g e d m l : ℕ) → w ≤ v + (e + d) * m → w - (l + (g + e) * m) ≤ v - (l + g * m) + d * m
@@ -31,6 +32,24 @@ first-used c w =
     let x = w - (c .link + c .node) in
     let e = c .send + c .compute in
     omega (arith, div-mul-le-self x e, mul-le-mul-left (x / e) (le-add-right (c .send) (c .compute)))
+
+-- What is left after k nodes and one more is what that one leaves.
+pub left-snoc : (c : Costs) (k w : ℕ) → leftAfter c (k + 1) w ≡ left c (leftAfter c k w) (first c (leftAfter c k w))
+unfolding leftAfter
+left-snoc c k w = rw add-one (go k w)
+  where
+    go : (k w : ℕ) → leftAfter c (suc k) w ≡ left c (leftAfter c k w) (first c (leftAfter c k w))
+    go zero w = refl
+    go (suc k) w = go k (left c w (first c w))
+
+-- The next share joins the capacity: k nodes and one more hold what the k do, and the first share of what they leave.
+pub capacity-snoc : (c : Costs) (k w : ℕ) → capacity c (k + 1) w ≡ capacity c k w + first c (leftAfter c k w)
+unfolding capacity leftAfter
+capacity-snoc c k w = rw add-one (go k w)
+  where
+    go : (k w : ℕ) → capacity c (suc k) w ≡ capacity c k w + first c (leftAfter c k w)
+    go zero w = omega arith
+    go (suc k) w = omega (arith, go k (left c w (first c w)))
 
 module _ (c : Costs) (sends : 1 ≤ c .send) where
   -- A share that fits the window is at most the first share.

@@ -81,13 +81,19 @@ module _ (c : Costs) (sends : 1 ≤ c .send) where
       go true q ih = ih (leb-true _ _ q)
       go false q ih = least-window n z w (leb-false _ _ q) h
 
+  -- Where every shorter window is too short, `earliest` is the window itself.
+  pub earliest-stays : (n z w : ℕ) → ((v : ℕ) → v < w → capacity c n v < z) → earliest c n z w ≡ w
+  unfolding earliest
+  earliest-stays n z zero h = refl
+  earliest-stays n z (suc w) h = rw (lt-leb z (capacity c n w) (h w (omega arith)))
+
   -- Where the window is too short, `earliest` is the window itself.
   pub earliest-short : (n z w : ℕ) → capacity c n w < z → earliest c n z w ≡ w
-  unfolding earliest
-  earliest-short n z zero h = refl
-  earliest-short n z (suc w) h =
-      let g : capacity c n w < z = omega (arith, longer c sends n {w = w} {v = suc w} (omega arith)) in
-      rw (lt-leb z (capacity c n w) g)
+  earliest-short n z w h = earliest-stays n z w (λ v k. omega (arith, longer c sends n {w = v} {v = w} (omega arith)))
+
+  -- A shorter window that is long enough has the same least window.
+  pub earliest-same : (n z v w : ℕ) → z ≤ capacity c n v → v ≤ w → earliest c n z v ≡ earliest c n z w
+  earliest-same n z v w h k = sym (earliest-is n z w (earliest c n z v) (earliest-least n z v h) (omega (arith, earliest-within n z v)))
 
   -- In the least window the capacity is exactly the size.
   pub exact : (n z v : ℕ) → IsEarliest c n z v → capacity c n v ≡ z

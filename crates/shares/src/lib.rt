@@ -98,3 +98,71 @@ pub fn capacity(costs: Costs, nodes: usize, window: u64) -> u64
     }
     next.units + capacity(costs, nodes - 1, next.left)
 }
+
+// The fewest nodes, of at most `nodes`, that hold a size in a window, or that none do.
+pub fn fewest_nodes(costs: Costs, nodes: usize, size: u64, window: u64) -> Fewest
+    ensures { λ r. ⌜ r ≡ fewestOf costs nodes size window ⌝ }
+{
+    if !answerable(costs, nodes) {
+        return Fewest::None;
+    }
+    if size == 0 {
+        return Fewest::Nodes(0);
+    }
+    let mut rest = size;
+    let mut left = window;
+    let mut count: usize = 0;
+    while count < nodes {
+        let next = next_share(costs, left);
+        if rest <= next.units {
+            return Fewest::Nodes(count + 1);
+        }
+        rest -= next.units;
+        left = next.left;
+        count += 1;
+    }
+    Fewest::None
+}
+
+// The earliest finish: the least window, of at most the given one, in which the nodes hold a size, found by
+// halving. Where the given window is too short it is the answer.
+pub fn earliest_finish(costs: Costs, nodes: usize, size: u64, window: u64) -> u64
+    ensures { λ r. ⌜ r ≡ earliestOf costs nodes size window ⌝ }
+{
+    if !answerable(costs, nodes) {
+        return window;
+    }
+    let mut low: u64 = 0;
+    let mut high = window;
+    while low < high {
+        let middle = low + (high - low) / 2;
+        if size <= capacity(costs, nodes, middle) {
+            high = middle;
+        } else {
+            low = middle + 1;
+        }
+    }
+    high
+}
+
+// The shares with which the nodes hold what a window can hold: each node in turn the largest that fits.
+pub fn greedy_shares(costs: Costs, nodes: usize, window: u64) -> Shares
+    ensures { λ r. ⌜ r ≡ sharesOf costs nodes window ⌝ }
+{
+    let mut units = [0u64; 64];
+    if !answerable(costs, nodes) {
+        return Shares { units, count: 0 };
+    }
+    let mut left = window;
+    let mut count: usize = 0;
+    while count < nodes {
+        let next = next_share(costs, left);
+        if next.units == 0 {
+            return Shares { units, count };
+        }
+        units[count] = next.units;
+        left = next.left;
+        count += 1;
+    }
+    Shares { units, count }
+}
