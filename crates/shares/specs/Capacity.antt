@@ -1,12 +1,23 @@
 -- The capacity of a window grows with the window and with the nodes, and by how much at most.
 use mathlib.Core.Path.{_≡_, refl, ap, sym, subst}
+use mathlib.Core.Bool.{Bool, true, false, cond}
 use Prim.Native.Nat.{ℕ, zero, suc, _+_, _*_, _-_, _/_, _≤_, _<_}
 use native.Mathlib.Nat.{le-div-iff-mul-le, div-mul-le-self, mul-le-mul-left, mul-le-mul-right, add-sub-of-le, div-le-self, div-eq-of-lt, div-zero, le-add-right}
 use native.Mathlib.Numerals.{add-one}
 use native.Mathlib.Decide.{decLe}
 use native.Mathlib.Omega.{arith}
+use borrow.Author.Tests.{leb-false}
+use lib.Dec.{leb}
 use Rattle.shares.specs.declared.Costs.{Costs}
 use Rattle.shares.specs.Model.{first, left, leftAfter, capacity}
+
+-- the paper's branch form: if not even 1 fits, the first node holds 0 and so do the rest
+unfoldable pub byBranch : Costs → ℕ → ℕ → ℕ
+byBranch c zero w = 0
+byBranch c (suc n) w =
+    cond (leb (c .link + c .node + (c .send + c .compute)) w)
+    (first c w + byBranch c n (left c w (first c w)))
+    0
 
 -- the arithmetic of one node: what is left of w and of v, where the shares are g + e and g
 shorter : (w v g e d m l : ℕ) → w ≤ v + (e + d) * m → w - (l + (g + e) * m) ≤ v - (l + g * m) + d * m
@@ -138,6 +149,10 @@ module _ (c : Costs) (sends : 1 ≤ c .send) where
       let s : v - (c .link + first c v * c .send) ≤ w = omega arith in
       omega (arith, none-fits n w (v - (c .link + first c v * c .send)) e s)
 
+  left-shorter : (w a : ℕ) → left c w a ≤ w
+  unfolding left
+  left-shorter w a = omega arith
+
   -- A window holds at most as many units as it has ticks.
   pub at-most-window : (n w : ℕ) → capacity c n w ≤ w
   unfolding first
@@ -145,3 +160,16 @@ module _ (c : Costs) (sends : 1 ≤ c .send) where
     where
       none : first c 0 ≡ 0
       none = omega (arith, div-le-self (0 - (c .link + c .node)) (c .send + c .compute))
+
+  -- In the paper's branch form the capacity is the same.
+  pub branch-same : (n w : ℕ) → byBranch c n w ≡ capacity c n w
+  unfolding byBranch capacity
+  branch-same zero w = refl
+  branch-same (suc n) w = go (leb (c .link + c .node + (c .send + c .compute)) w) refl (branch-same n)
+    where
+      go : (b : Bool) → leb (c .link + c .node + (c .send + c .compute)) w ≡ b → ((w : ℕ) → byBranch c n w ≡ capacity c n w)
+          → cond b (first c w + byBranch c n (left c w (first c w))) 0 ≡ first c w + capacity c n (left c w (first c w))
+      go true e ih = ap (λ (x : ℕ). first c w + x) (ih (left c w (first c w)))
+      go false e ih =
+          let none : first c w ≡ 0 = first-none c w (omega (arith, leb-false (c .link + c .node + (c .send + c .compute)) w e)) in
+          omega (arith, none-fits n w (left c w (first c w)) none (left-shorter w (first c w)))

@@ -14,7 +14,7 @@ use Rattle.shares.specs.declared.Costs.{Costs}
 use Rattle.shares.specs.declared.Fewest.{Fewest}
 use Rattle.shares.specs.declared.Fewest.the-variants.{Nodes, None}
 use Rattle.shares.specs.Model.{finish, sum, capacity, greedy, orElse, fewest, earliest}
-use Rattle.shares.specs.Lists.{All, Positive, NoLarger}
+use Rattle.shares.specs.Lists.{Positive, NoLarger, no-larger-both}
 use Rattle.shares.specs.Capacity.{slack, longer, more-nodes, at-most-window}
 use Rattle.shares.specs.Optimal.{optimal, greedy-ends, greedy-sum, greedy-largest, greedy-length, greedy-positive}
 
@@ -208,3 +208,7 @@ module _ (c : Costs) (sends : 1 ≤ c .send) where
         ; ends = t .1
         ; largest = λ ys l p q. greedy-largest c sends n 0 v ys (omega arith) p (omega arith)
         }
+
+-- The booked shares are the only ones with these properties.
+pub best-only : (c : Costs) (n z v : ℕ) (xs ys : List ℕ) → Best c n z v xs → Best c n z v ys → xs ≡ ys
+best-only c n z v xs ys p q = no-larger-both xs ys (q .largest xs (p .count) (p .each) (p .ends)) (p .largest ys (q .count) (q .each) (q .ends))
