@@ -98,12 +98,16 @@ module _ (c : Costs) (sends : 1 ≤ c .send) where
     where
       f : ℕ
       f = first c w
+
       g : ℕ
       g = first c v
+
       rest : ℕ → ℕ → ℕ
       rest u a = capacity c n (u - (c .link + a * c .send))
+
       less : (e : ℕ) → g ≡ f + e → f + rest w f ≤ g + rest v g + d
       less e q = rw q (omega (arith, ih _ _ (d + e) (shorter′ w v f e d (c .send) (c .link) h)))
+
       more : (e : ℕ) → f ≡ g + e → f + rest w f ≤ g + rest v g + d
       more e q =
           let k : e ≤ d = first-slack w v d e h q in

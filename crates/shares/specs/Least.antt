@@ -99,9 +99,10 @@ module _ (c : Costs) (sends : 1 ≤ c .send) where
   pub exact : (n z v : ℕ) → IsEarliest c n z v → capacity c n v ≡ z
   exact n z zero i = omega (arith, i .enough, at-most-window c sends n 0)
   exact n z (suc v) i =
-      elim (decLe z (capacity c n v))
-      [ yes k ↦ absurd (omega (arith, i .least v k))
-      | no k ↦ omega (arith, i .enough, slack c sends n (suc v) v 1 (omega arith)) ]
+      elim (decLe z (capacity c n v)) [
+        | yes k ↦ absurd (omega (arith, i .least v k))
+        | no k ↦ omega (arith, i .enough, slack c sends n (suc v) v 1 (omega arith))
+      ]
 
   -- ---- The fewest nodes
 
@@ -126,6 +127,7 @@ module _ (c : Costs) (sends : 1 ≤ c .send) where
       last : (b : Bool) → leb z (capacity c (suc n) w) ≡ b → capacity c n w < z → Told (suc n) z w (cond b (Nodes (suc n)) None)
       last true q h = (omega arith, fewest-nodes n z w h (leb-true _ _ q))
       last false q h = leb-false _ _ q
+
       go : (f : Fewest) → Told n z w f → Told (suc n) z w (orElse f (cond (leb z (capacity c (suc n) w)) (Nodes (suc n)) None))
       go (Nodes k) t = (omega arith, t .1)
       go None t = last (leb z (capacity c (suc n) w)) refl t
@@ -161,12 +163,12 @@ module _ (c : Costs) (sends : 1 ≤ c .send) where
 
   -- In the least window the greedy shares add up to exactly the size, and end within it.
   pub exact-shares : (n z v : ℕ) → IsEarliest c n z v → Divides c n z v (greedy c n v)
-  exact-shares n z v i = record
-    { count = greedy-length c n v
-    ; each = greedy-positive c n v
-    ; all = greedy-sum c sends n v ∙ exact n z v i
-    ; ends = omega (arith, greedy-ends c sends n 0 v)
-    }
+  exact-shares n z v i = record {
+    count = greedy-length c n v;
+    each = greedy-positive c n v;
+    all = greedy-sum c sends n v ∙ exact n z v i;
+    ends = omega (arith, greedy-ends c sends n 0 v);
+  }
 
   -- n nodes hold z units in w ticks exactly when some list of at most n shares, each at least 1, adds up to z and ends within w.
   pub suffices : (n z w : ℕ) → (z ≤ capacity c n w) ↔ ((xs : List ℕ) × Divides c n z w xs)
@@ -177,6 +179,7 @@ module _ (c : Costs) (sends : 1 ≤ c .send) where
           let v = earliest c n z w in
           let d : Divides c n z v (greedy c n v) = exact-shares n z v (earliest-least n z w h) in
           (greedy c n v, record { count = d .count; each = d .each; all = d .all; ends = omega (arith, d .ends, earliest-within n z w) })
+
       back : ((xs : List ℕ) × Divides c n z w xs) → z ≤ capacity c n w
       back x =
           let d = x .1 in
@@ -189,8 +192,10 @@ module _ (c : Costs) (sends : 1 ≤ c .send) where
     where
       within : v ≤ w
       within = e .least w (f .enough)
+
       long : z ≤ capacity c (length xs) w
       long = suffices (length xs) z w .1 (xs, record { count = omega arith; each = d .each; all = d .all; ends = omega (arith, d .ends, within) })
+
       soon : z ≤ capacity c n (finish c 0 xs)
       soon = suffices n z (finish c 0 xs) .1 (xs, record { count = d .count; each = d .each; all = d .all; ends = omega arith })
 
@@ -201,13 +206,13 @@ module _ (c : Costs) (sends : 1 ≤ c .send) where
   best n z w v f e =
       let d = exact-shares n z v e in
       let t = tight n z w v (greedy c n v) f e d in
-      record
-        { count = t .0
-        ; each = d .each
-        ; all = d .all
-        ; ends = t .1
-        ; largest = λ ys l p q. greedy-largest c sends n 0 v ys (omega arith) p (omega arith)
-        }
+      record {
+        count = t .0;
+        each = d .each;
+        all = d .all;
+        ends = t .1;
+        largest = λ ys l p q. greedy-largest c sends n 0 v ys (omega arith) p (omega arith);
+      }
 
 -- The booked shares are the only ones with these properties.
 pub best-only : (c : Costs) (n z v : ℕ) (xs ys : List ℕ) → Best c n z v xs → Best c n z v ys → xs ≡ ys

@@ -156,12 +156,12 @@ pub fn greedy_shares(costs: Costs, nodes: usize, window: u64) -> Shares
     let mut left = window;
     let mut count: usize = 0;
     while count < nodes {
-        let next = next_share(costs, left);
-        if next.units == 0 {
+        let share = next_share(costs, left);
+        if share.units == 0 {
             return Shares { units, count };
         }
-        units[count] = next.units;
-        left = next.left;
+        units[count] = share.units;
+        left = share.left;
         count += 1;
     }
     Shares { units, count }

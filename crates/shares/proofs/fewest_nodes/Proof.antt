@@ -8,7 +8,7 @@ use Rattle.shares.specs.declared.Share.{Share}
 use Rattle.shares.specs.Model
 use Rattle.shares.specs.Model.{nextOf, first, leftAfter, capacity}
 use Rattle.shares.specs.Capacity.{capacity-snoc, left-snoc}
-use Rattle.shares.specs.Answers.{fewest-refused, fewest-nothing, fewest-found, fewest-never}
+use Rattle.shares.specs.Answers.{answered-is, fewest-refused, fewest-nothing, fewest-found, fewest-never}
 use borrow.Author.Needs.{needs}
 use Rattle.shares.proofs.fewest_nodes.Statement.{statement}
 use Rattle.shares.proofs.fewest_nodes.Tie as tie
@@ -41,7 +41,9 @@ next-share-requires : tie.Need-next-share-requires Inv-loop μ-loop
 next-share-requires c κs = search needs
 
 add-t12 : tie.Need-add-t12 Inv-loop μ-loop
-add-t12 c = search needs
+add-t12 c =
+    let a = c .before .before .before .before .before .before .before .before .args in
+    omega (arith, answered-is (a .costs) (a .nodes) (sym (c .before .before .before .before .before .before .before .answerable .ensures) ∙ not-false _ (c .before .before .before .before .before .before .if1 .left)) .1)
 
 returns-3 : tie.Need-returns-3 Inv-loop μ-loop
 unfolding nextOf
@@ -49,7 +51,7 @@ returns-3 c =
     let a = c .before .before .before .before .before .before .before .before .args in
     let l = c .before .before .before .before .loop in
     let units : c .before .before .next-share .result .units ≡ first (a .costs) (leftAfter (a .costs) (l .count) (a .window)) =
-        ap (λ (x : Share). x .units) (c .before .before .next-share .ensures) ∙ ap (first (a .costs)) (l .inv .3) in
+    ap (λ (x : Share). x .units) (c .before .before .next-share .ensures) ∙ ap (first (a .costs)) (l .inv .3) in
     sym (fewest-found (a .costs) (a .nodes) (a .size) (a .window) (l .count) (l .rest) (sym (c .before .before .before .before .before .before .before .answerable .ensures) ∙ not-false _ (c .before .before .before .before .before .before .if1 .left)) (c .before .before .before .loop-test .taken) (l .inv .1) (l .inv .2) (omega arith))
 
 sub-rest : tie.Need-sub-rest Inv-loop μ-loop
@@ -67,9 +69,9 @@ loop-again c =
     let a = c .before .before .before .before .before .before .before .before .before .args in
     let l = c .before .before .before .before .before .loop in
     let units : c .before .before .before .next-share .result .units ≡ first (a .costs) (leftAfter (a .costs) (l .count) (a .window)) =
-        ap (λ (x : Share). x .units) (c .before .before .before .next-share .ensures) ∙ ap (first (a .costs)) (l .inv .3) in
+    ap (λ (x : Share). x .units) (c .before .before .before .next-share .ensures) ∙ ap (first (a .costs)) (l .inv .3) in
     let left : c .before .before .before .next-share .result .left ≡ leftAfter (a .costs) (l .count + 1) (a .window) =
-        ap (λ (x : Share). x .left) (c .before .before .before .next-share .ensures) ∙ ap (λ (x : ℕ). Model.left (a .costs) x (first (a .costs) x)) (l .inv .3) ∙ sym (left-snoc (a .costs) (l .count) (a .window)) in
+    ap (λ (x : Share). x .left) (c .before .before .before .next-share .ensures) ∙ ap (λ (x : ℕ). Model.left (a .costs) x (first (a .costs) x)) (l .inv .3) ∙ sym (left-snoc (a .costs) (l .count) (a .window)) in
     (omega arith, omega arith, omega (arith, capacity-snoc (a .costs) (l .count) (a .window)), left)
 
 returns-4 : tie.Need-returns-4 Inv-loop μ-loop

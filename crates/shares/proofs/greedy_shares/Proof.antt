@@ -73,11 +73,12 @@ loop-again c =
     let a = c .before .before .before .before .before .before .before .args in
     let l = c .before .before .before .before .loop in
     let few : a .nodes ≤ 64 = answered-is (a .costs) (a .nodes) (sym (c .before .before .before .before .before .before .answerable .ensures) ∙ not-false _ (c .before .before .before .before .before .if1 .left)) .1 in
-    let next = c .before .before .next-share in
-    (omega arith
-    , simp length-set (l .inv .1)
-    , rw (next .ensures) (greedy-more (a .costs) (a .nodes) (a .window) (l .count) (l .left) (l .units) (c .before .before .before .loop-test .taken) (omega arith) (omega (arith, ap (λ (x : Share). x .units) (next .ensures))) (l .inv .2))
-    , stored-more (l .units) (l .count) (next .result .units) (l .inv .1) (omega arith) (l .inv .3))
+    let next = c .before .before .next-share in (
+      omega arith,
+      simp length-set (l .inv .1),
+      rw (next .ensures) (greedy-more (a .costs) (a .nodes) (a .window) (l .count) (l .left) (l .units) (c .before .before .before .loop-test .taken) (omega arith) (omega (arith, ap (λ (x : Share). x .units) (next .ensures))) (l .inv .2)),
+      stored-more (l .units) (l .count) (next .result .units) (l .inv .1) (omega arith) (l .inv .3),
+    )
 
 returns-3 : tie.Need-returns-3 Inv-loop μ-loop
 unfolding greedy
