@@ -49,7 +49,8 @@ loop-again c =
     let l = c .before .before .before .loop in
     let ok : answers (a .costs) (a .nodes) ≡ true = sym (c .before .before .before .before .before .answerable .ensures) ∙ not-false _ (c .before .before .before .before .if1 .left) in
     let middle = l .low + (l .high - l .low) / 2 in
-    let enough : a .size ≤ capacity (a .costs) (a .nodes) middle = rw (← capacity-answer (a .costs) (a .nodes) middle ok, ← c .before .capacity .ensures) (c .if2 .taken) in
+    let held : c .before .capacity .result ≡ capacity (a .costs) (a .nodes) middle = c .before .capacity .ensures ∙ capacity-answer (a .costs) (a .nodes) middle ok in
+    let enough : a .size ≤ capacity (a .costs) (a .nodes) middle = omega arith in
     (omega arith, omega arith, earliest-same (a .costs) (answered-is (a .costs) (a .nodes) ok .0) (a .nodes) (a .size) middle (l .high) enough (omega arith) ∙ l .inv .2, l .inv .3)
 
 add-low : tie.Need-add-low Inv-loop μ-loop
@@ -64,7 +65,8 @@ loop-again-2 c =
     let l = c .before .before .before .loop in
     let ok : answers (a .costs) (a .nodes) ≡ true = sym (c .before .before .before .before .before .answerable .ensures) ∙ not-false _ (c .before .before .before .before .if1 .left) in
     let middle = l .low + (l .high - l .low) / 2 in
-    let short : capacity (a .costs) (a .nodes) middle < a .size = rw (← capacity-answer (a .costs) (a .nodes) middle ok, ← c .before .capacity .ensures) (c .if2 .left) in
+    let held : c .before .capacity .result ≡ capacity (a .costs) (a .nodes) middle = c .before .capacity .ensures ∙ capacity-answer (a .costs) (a .nodes) middle ok in
+    let short : capacity (a .costs) (a .nodes) middle < a .size = omega arith in
     (omega arith, omega arith, l .inv .2, λ v h. omega (arith, longer (a .costs) (answered-is (a .costs) (a .nodes) ok .0) (a .nodes) {w = v} {v = middle} (omega arith)))
 
 returns-2 : tie.Need-returns-2 Inv-loop μ-loop
