@@ -7,7 +7,7 @@ use native.Mathlib.Omega.{arith}
 use lib.ListN.{length, getD, take}
 use Rattle.shares.specs.declared.Costs.{Costs}
 use Rattle.shares.specs.Model.{sendEnd, chunkFinish, finishes, finish, sum}
-use Rattle.shares.specs.Lists.{All}
+use Rattle.lists.specs.Laws.{All}
 
 -- There are as many chunk finishes as shares.
 pub finishes-length : (c : Costs) (t : ℕ) (xs : List ℕ) → length (finishes c t xs) ≡ length xs

@@ -9,7 +9,7 @@ use native.Mathlib.Omega.{arith}
 use lib.ListN.{length}
 use Rattle.shares.specs.declared.Costs.{Costs}
 use Rattle.shares.specs.Model.{sendEnd, chunkFinish, finish, sum, first, left, capacity, cut, greedy}
-use Rattle.shares.specs.Lists.{All, Positive, NoLarger}
+use Rattle.shares.specs.Lists.{Positive, NoLarger}
 use Rattle.shares.specs.Capacity.{first-most, first-fits, slack, none-fits}
 
 module _ (c : Costs) (sends : 1 ≤ c .send) where

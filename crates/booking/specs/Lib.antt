@@ -1,0 +1,7 @@
+-- What a reader must believe is Model and Best; the other files show what follows.
+pub mod Model
+pub mod Search
+pub mod Best
+pub mod Rank
+pub mod Choose
+pub mod Booked
