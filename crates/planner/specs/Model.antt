@@ -1,0 +1,152 @@
+-- The farm and its calls, in the words and the order of document 01. Everything here is a definition; nothing is assumed.
+use Prim.Native.Nat.{ℕ, zero, suc, _+_, _-_, max}
+use mathlib.Core.Path.{_≡_}
+use mathlib.Core.List.{List, [], _∷_, _++_, map}
+use mathlib.Core.Bool.{Bool, true, false, cond, _&&_, not}
+use lib.Dec.{leb, ltb, eqb}
+use lib.ListN.{length, getD, take, drop, set, replicate}
+use Rattle.lists.specs.Laws.{All}
+use Rattle.shares.specs.declared.Costs.{Costs}
+use Rattle.shares.specs.Model.{sendEnd, chunkFinish, finish, sum}
+use Rattle.keys.specs.declared.Key.{Key}
+use Rattle.keys.specs.Model.{sortKeys}
+use Rattle.booking.specs.declared.Request.{Request}
+use Rattle.booking.specs.declared.Booking.{Booking}
+use Rattle.booking.specs.Model.{bookingOf, bookOf}
+use Rattle.booking.specs.Best.{freeAt, chosen, units}
+use Rattle.planner.specs.declared.Job.{Job}
+use Rattle.planner.specs.declared.Busy.{Busy}
+use Rattle.planner.specs.declared.Farm.{Farm}
+use Rattle.planner.specs.declared.Chunk.{Chunk}
+use Rattle.planner.specs.declared.Question.{Question}
+use Rattle.planner.specs.declared.Answer.{Answer}
+use Rattle.planner.specs.declared.Question.the-variants as question
+use Rattle.planner.specs.declared.Answer.the-variants as answer
+
+-- ---- Quantities
+
+-- the greatest tick, allowance and count of job numbers
+abbrev pub greatest : ℕ
+greatest = 1_000_000_000_000
+
+abbrev pub between : ℕ → ℕ → ℕ → Bool
+between a x b = leb a x && leb x b
+
+-- every number of a list is at most b
+unfoldable pub allAtMost : ℕ → List ℕ → Bool
+allAtMost b [] = true
+allAtMost b (x ∷ xs) = leb x b && allAtMost b xs
+
+-- every number of a list is at least a
+unfoldable pub allAtLeast : ℕ → List ℕ → Bool
+allAtLeast a [] = true
+allAtLeast a (x ∷ xs) = leb a x && allAtLeast a xs
+
+-- the costs are within the table
+unfoldable pub costsWithin : Costs → Bool
+costsWithin c = between 1 (c .send) 10_000 && between 1 (c .compute) 1_000_000 && leb (c .link) 1_000_000 && leb (c .node) 1_000_000
+
+-- ---- Jobs and chunks
+
+-- the job that the array of waiting jobs is filled with
+abbrev pub emptyJob : Job
+emptyJob = record { number = 0; show = 0; size = 0; deadline = 0; booking = bookingOf 0 [] [] }
+
+-- past a list's end
+abbrev pub noJob : Job
+noJob = record { number = 0; show = 0; size = 0; deadline = 0; booking = record { start = 0; count = 0; nodes = []; shares = [] } }
+
+-- the chunks of shares xs on nodes ks, the first send beginning at t
+unfoldable pub chunksFrom : Costs → ℕ → ℕ → ℕ → List ℕ → List ℕ → List Chunk
+chunksFrom c j s t [] [] = []
+chunksFrom c j s t [] (a ∷ xs) = []
+chunksFrom c j s t (k ∷ ks) [] = []
+chunksFrom c j s t (k ∷ ks) (a ∷ xs) =
+    record { job = j; show = s; node = k; units = a; start = t; sent = sendEnd c t a; finish = chunkFinish c t a } ∷ chunksFrom c j s (sendEnd c t a) ks xs
+
+-- the lines of a job's booking, in chunk order
+abbrev pub linesOf : Costs → Job → List Chunk
+linesOf c j = chunksFrom c (j .number) (j .show) (j .booking .start) (chosen (j .booking)) (units (j .booking))
+
+-- a chunk with the start of its job, where its node's span begins
+pub record Span : Type 0 where
+  pub from : ℕ
+  pub chunk : Chunk
+
+abbrev pub spansOf : Costs → Job → List Span
+spansOf c j = map (λ (x : Chunk). record { from = j .booking .start; chunk = x }) (linesOf c j)
+
+-- the spans of several jobs
+unfoldable pub spansOfAll : Costs → List Job → List Span
+spansOfAll c [] = []
+spansOfAll c (j ∷ js) = spansOf c j ++ spansOfAll c js
+
+-- ---- Lengths: a value of the declared types has arrays of these lengths
+
+pub record JobSized (j : Job) : Type 0 where
+  pub nodes : length (j .booking .nodes) ≡ 64
+  pub shares : length (j .booking .shares) ≡ 64
+
+pub record Sized (f : Farm) : Type 0 where
+  pub allowances : length (f .allowances) ≡ 32
+  pub held : length (f .held) ≡ 32
+  pub free : length (f .free) ≡ 64
+  pub jobs : length (f .jobs) ≡ 128
+  pub each : All JobSized (f .jobs)
+
+-- ---- Free times
+
+-- a chunk moves the link's free time to its send's end and its node's to its finish
+abbrev pub after : Busy → Chunk → Busy
+after b x = record { link = x .sent; free = set (b .free) (x .node - 1) (x .finish) }
+
+unfoldable pub afters : Busy → List Chunk → Busy
+afters b [] = b
+afters b (x ∷ xs) = afters (after b x) xs
+
+-- ---- The deadline walk
+
+abbrev pub waitingOf : Farm → List Job
+waitingOf f = take (f .waiting) (f .jobs)
+
+abbrev pub busyOf : Farm → Busy
+busyOf f = record { link = f .link; free = f .free }
+
+-- keys of the jobs at places i, i + 1, …, by deadline, equal ones by number
+unfoldable pub deadlineKeys : ℕ → List Job → List Key
+deadlineKeys i [] = []
+deadlineKeys i (j ∷ js) = record { time = j .deadline; number = j .number; place = i } ∷ deadlineKeys (suc i) js
+
+-- the jobs in the order of their keys
+abbrev pub inOrder : List Job → List Key → List Job
+inOrder js ks = map (λ (x : Key). getD js (x .place) noJob) ks
+
+-- jobs by deadline, equal deadlines by job number
+unfoldable pub byDeadline : List Job → List Job
+byDeadline js = inOrder js (sortKeys (deadlineKeys 0 js))
+
+-- what is asked for a job: no start before the clock or the link's free time
+abbrev pub requestOf : Farm → Busy → Job → Request
+requestOf f b j = record { costs = f .costs; nodes = f .nodes; from = max (f .clock) (b .link); size = j .size; deadline = j .deadline }
+
+-- a job with a booking
+abbrev pub booked : Job → Booking → Job
+booked j b = record { number = j .number; show = j .show; size = j .size; deadline = j .deadline; booking = b }
+
+-- the next job of the walk, booked
+abbrev pub step : Farm → Busy → Job → Job
+step f b j = booked j (bookOf (requestOf f b j) (b .free))
+
+-- the free times once it is booked
+abbrev pub busyAfter : Farm → Busy → Job → Busy
+busyAfter f b j = afters b (linesOf (f .costs) (step f b j))
+
+-- each job in turn, behind those before it
+unfoldable pub plan : Farm → Busy → List Job → List Job
+plan f b [] = []
+plan f b (j ∷ js) = step f b j ∷ plan f (busyAfter f b j) js
+
+-- whether each is booked
+unfoldable pub booksAll : Farm → Busy → List Job → Bool
+booksAll f b [] = true
+booksAll f b (j ∷ js) = leb 1 (step f b j .booking .count) && booksAll f (busyAfter f b j) js

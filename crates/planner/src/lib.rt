@@ -1,0 +1,86 @@
+// The farm: opening, offers and accounts. Each call takes the farm as a value and hands the next one back.
+// What each call means is in specs/Model.antt.
+use booking::Booking;
+use shares::Costs;
+
+// An accepted job that waits: what the offer fixed, and where the latest plan has it.
+pub struct Job {
+    pub number: u64,
+    pub show: u64,
+    pub size: u32,
+    pub deadline: u64,
+    pub booking: Booking,
+}
+
+// When the link and each node come free.
+pub struct Busy {
+    pub link: u64,
+    pub free: [u64; 64],
+}
+
+// The farm. The first `shows` allowances and held ticks, the first `nodes` free times and the first `waiting` jobs
+// are its figures; the cells past them are not looked at.
+pub struct Farm {
+    pub opened: bool,
+    pub nodes: usize,
+    pub costs: Costs,
+    pub shows: usize,
+    pub allowances: [u64; 32],
+    pub held: [u64; 32],
+    pub clock: u64,
+    pub link: u64,
+    pub free: [u64; 64],
+    pub used: u64,
+    pub waiting: usize,
+    pub jobs: [Job; 128],
+}
+
+// A line of the timetable: what a node is sent, and when. `start` and `sent` are the start and the end of its send.
+pub struct Chunk {
+    pub job: u64,
+    pub show: u64,
+    pub node: u64,
+    pub units: u64,
+    pub start: u64,
+    pub sent: u64,
+    pub finish: u64,
+}
+
+// The question that was answered no.
+pub enum Question {
+    Nodes,
+    Costs,
+    Shows,
+    Show,
+    Size,
+    Deadline,
+    Queue,
+    Walk,
+    Farm,
+}
+
+// What a call answers.
+pub enum Answer {
+    Open {
+        nodes: u64,
+        shows: u64,
+    },
+    Yes {
+        job: u64,
+        start: u64,
+        finish: u64,
+        nodes: u64,
+    },
+    Account {
+        show: u64,
+        held: u64,
+        charged: u64,
+    },
+    No(Question),
+}
+
+// An answer, with the farm that is handed back.
+pub struct Reply {
+    pub answer: Answer,
+    pub farm: Farm,
+}
