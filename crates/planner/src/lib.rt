@@ -1,5 +1,10 @@
 // The farm: opening, offers and accounts. Each call takes the farm as a value and hands the next one back.
 // What each call means is in specs/Model.antt.
+mod calls;
+mod passing;
+mod table;
+mod walk;
+
 use booking::Booking;
 use shares::Costs;
 

@@ -1,0 +1,183 @@
+-- The calls: what each answers, with the paper's number and values, and the farm that it hands back.
+use Prim.Native.Nat.{ℕ, zero, suc, _+_, _-_, max}
+use mathlib.Core.List.{List, [], _∷_, _++_}
+use mathlib.Core.Bool.{Bool, true, false, cond, _&&_}
+use mathlib.Core.Path.{_≡_}
+use lib.Dec.{leb, ltb, eqb}
+use lib.ListN.{length, getD, take, drop, replicate}
+use Rattle.shares.specs.declared.Costs.{Costs}
+use Rattle.shares.specs.Model.{finish}
+use Rattle.booking.specs.Model.{bookingOf}
+use Rattle.booking.specs.Best.{units}
+use Rattle.planner.specs.declared.Job.{Job}
+use Rattle.planner.specs.declared.Farm.{Farm}
+use Rattle.planner.specs.declared.Reply.{Reply}
+use Rattle.planner.specs.declared.Question.{Question}
+use Rattle.planner.specs.declared.Answer.{Answer}
+use Rattle.planner.specs.declared.Question.the-variants as question
+use Rattle.planner.specs.declared.Answer.the-variants as answer
+use Rattle.planner.specs.Model.{greatest, between, allAtMost, costsWithin, emptyJob, noJob, waitingOf, busyOf, byDeadline, plan, booksAll}
+use Rattle.planner.specs.Passes.{passesOf}
+
+-- ---- Answers
+
+-- an answer in the paper's terms: the number of the question that was answered no, 0 where all were answered yes; and the values
+pub record Said : Type 0 where
+  pub number : ℕ
+  pub values : List ℕ
+
+abbrev pub granted : List ℕ → Said
+granted vs = record { number = 0; values = vs }
+
+abbrev pub refused : ℕ → Said
+refused n = record { number = n; values = [] }
+
+abbrev pub numberOf : Question → ℕ
+numberOf question.Nodes = 1
+numberOf question.Costs = 2
+numberOf question.Shows = 3
+numberOf question.Show = 4
+numberOf question.Size = 5
+numberOf question.Deadline = 6
+numberOf question.Queue = 7
+numberOf question.Walk = 8
+numberOf question.Farm = 11
+
+-- the paper's number and values for each case of an answer
+abbrev pub said : Answer → Said
+said (answer.Open n s) = granted (n ∷ s ∷ [])
+said (answer.Yes j s t k) = granted (j ∷ s ∷ t ∷ k ∷ [])
+said (answer.Account s h c) = granted (s ∷ h ∷ c ∷ [])
+said (answer.No q) = refused (numberOf q)
+
+-- a reply says so and hands this farm back
+pub record Replies (r : Reply) (a : Said) (f : Farm) : Type 0 where
+  pub says : said (r .answer) ≡ a
+  pub hands : r .farm ≡ f
+
+-- ---- Opening
+
+-- the unopened farm: every figure is 0
+abbrev pub unopened : Farm
+unopened = record {
+  opened = false;
+  nodes = 0;
+  costs = record { send = 0; compute = 0; link = 0; node = 0 };
+  shows = 0;
+  allowances = replicate 32 0;
+  held = replicate 32 0;
+  clock = 0;
+  link = 0;
+  free = replicate 64 0;
+  used = 0;
+  waiting = 0;
+  jobs = replicate 128 emptyJob;
+}
+
+-- a farm just opened
+abbrev pub openedWith : ℕ → Costs → List ℕ → Farm
+openedWith n c al = record {
+  opened = true;
+  nodes = n;
+  costs = c;
+  shows = length al;
+  allowances = al ++ replicate (32 - length al) 0;
+  held = replicate 32 0;
+  clock = 0;
+  link = 0;
+  free = replicate 64 0;
+  used = 0;
+  waiting = 0;
+  jobs = replicate 128 emptyJob;
+}
+
+-- 1 to 32 shows, each allowance within the table
+abbrev pub showsWithin : List ℕ → Bool
+showsWithin al = between 1 (length al) 32 && allAtMost greatest al
+
+unfoldable pub openSaid : ℕ → Costs → List ℕ → Said
+openSaid n c al =
+    cond (between 1 n 64) (cond (costsWithin c) (cond (showsWithin al) (granted (n ∷ length al ∷ [])) (refused 3)) (refused 2)) (refused 1)
+
+unfoldable pub openFarm : ℕ → Costs → List ℕ → Farm
+openFarm n c al = cond (between 1 n 64 && costsWithin c && showsWithin al) (openedWith n c al) unopened
+
+-- ---- Account
+
+-- what a show has held, and its allowance
+abbrev pub heldBy : Farm → ℕ → ℕ
+heldBy f s = getD (f .held) (s - 1) 0
+
+abbrev pub allowanceOf : Farm → ℕ → ℕ
+allowanceOf f s = getD (f .allowances) (s - 1) 0
+
+-- charged: the held ticks above the allowance, otherwise 0
+unfoldable pub accountSaid : Farm → ℕ → Said
+accountSaid f s =
+    cond (passesOf f) (cond (between 1 s (f .shows)) (granted (s ∷ heldBy f s ∷ (heldBy f s - allowanceOf f s) ∷ [])) (refused 4)) (refused 11)
+
+-- ---- Offer
+
+-- the job that is offered, with the next number
+abbrev pub newJob : Farm → ℕ → ℕ → ℕ → Job
+newJob f s z d = record { number = f .used + 1; show = s; size = z; deadline = d; booking = bookingOf 0 [] [] }
+
+-- what is walked: the waiting jobs and the new one, by deadline
+abbrev pub queueOf : Farm → ℕ → ℕ → ℕ → List Job
+queueOf f s z d = byDeadline (waitingOf f ++ newJob f s z d ∷ [])
+
+-- the plan of the walk, and whether it books them all
+abbrev pub planned : Farm → ℕ → ℕ → ℕ → List Job
+planned f s z d = plan f (busyOf f) (queueOf f s z d)
+
+abbrev pub accepts : Farm → ℕ → ℕ → ℕ → Bool
+accepts f s z d = booksAll f (busyOf f) (queueOf f s z d)
+
+-- the farm with the new plan in place of the old
+abbrev pub withPlan : Farm → List Job → Farm
+withPlan f js = record {
+  opened = f .opened;
+  nodes = f .nodes;
+  costs = f .costs;
+  shows = f .shows;
+  allowances = f .allowances;
+  held = f .held;
+  clock = f .clock;
+  link = f .link;
+  free = f .free;
+  used = f .used + 1;
+  waiting = f .waiting + 1;
+  jobs = js ++ drop (f .waiting + 1) (f .jobs);
+}
+
+-- the job of a number
+unfoldable pub ofNumber : ℕ → List Job → Job
+ofNumber n [] = noJob
+ofNumber n (j ∷ js) = cond (eqb (j .number) n) j (ofNumber n js)
+
+-- job, start, finish and count of nodes
+abbrev pub yesOf : Costs → Job → Said
+yesOf c j = granted (j .number ∷ j .booking .start ∷ finish c (j .booking .start) (units (j .booking)) ∷ j .booking .count ∷ [])
+
+-- questions 11, 4, 5, 6 and 7 in that order: the number of the first answered no, or 0
+unfoldable pub offerAsked : Farm → ℕ → ℕ → ℕ → ℕ
+offerAsked f s z d =
+    cond (passesOf f)
+    (cond (between 1 s (f .shows))
+    (cond (between 1 z 1_000_000)
+    (cond (ltb (f .clock) d && leb d greatest)
+    (cond (ltb (f .waiting) 128 && ltb (f .used) greatest) 0 7)
+    6)
+    5)
+    4)
+    11
+
+-- past those, question 8: does the walk book them all?
+unfoldable pub offerSaid : Farm → ℕ → ℕ → ℕ → Said
+offerSaid f s z d =
+    cond (eqb (offerAsked f s z d) 0)
+    (cond (accepts f s z d) (yesOf (f .costs) (ofNumber (f .used + 1) (planned f s z d))) (refused 8))
+    (refused (offerAsked f s z d))
+
+unfoldable pub offerFarm : Farm → ℕ → ℕ → ℕ → Farm
+offerFarm f s z d = cond (eqb (offerAsked f s z d) 0) (cond (accepts f s z d) (withPlan f (planned f s z d)) f) f
