@@ -5,3 +5,5 @@ pub mod Best
 pub mod Rank
 pub mod Choose
 pub mod Booked
+pub mod Only
+pub mod Steps

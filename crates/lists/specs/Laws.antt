@@ -24,6 +24,12 @@ pub all-map : {A : Type 0} {P Q : A → Type 0} → ((x : A) → P x → Q x) �
 all-map f [] h = tt
 all-map f (x ∷ xs) h = (f x (h .0), all-map f xs (h .1))
 
+-- P of all is P at each place
+pub all-nth : {A : Type 0} (d : A) (P : A → Type 0) (xs : List A) (i : ℕ) → All P xs → i < length xs → P (getD xs i d)
+all-nth d P [] i h l = absurd (omega arith)
+all-nth d P (x ∷ xs) zero h l = h .0
+all-nth d P (x ∷ xs) (suc i) h l = all-nth d P xs i (h .1) (omega arith)
+
 -- P of two at once
 pub all-both : {A : Type 0} {P Q R : A → Type 0} → ((x : A) → P x → Q x → R x) → (xs : List A) → All P xs → All Q xs → All R xs
 all-both f [] h k = tt

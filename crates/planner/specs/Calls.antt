@@ -16,7 +16,7 @@ use Rattle.planner.specs.declared.Question.{Question}
 use Rattle.planner.specs.declared.Answer.{Answer}
 use Rattle.planner.specs.declared.Question.the-variants as question
 use Rattle.planner.specs.declared.Answer.the-variants as answer
-use Rattle.planner.specs.Model.{greatest, between, allAtMost, costsWithin, emptyJob, noJob, waitingOf, busyOf, byDeadline, plan, booksAll}
+use Rattle.planner.specs.Model.{greatest, between, allAtMost, costsWithin, emptyJob, noJob, waitingOf, termsOf, busyOf, byDeadline, plan, booksAll}
 use Rattle.planner.specs.Passes.{passesOf}
 
 -- ---- Answers
@@ -128,10 +128,10 @@ queueOf f s z d = byDeadline (waitingOf f ++ newJob f s z d ∷ [])
 
 -- the plan of the walk, and whether it books them all
 abbrev pub planned : Farm → ℕ → ℕ → ℕ → List Job
-planned f s z d = plan f (busyOf f) (queueOf f s z d)
+planned f s z d = plan (termsOf f) (busyOf f) (queueOf f s z d)
 
 abbrev pub accepts : Farm → ℕ → ℕ → ℕ → Bool
-accepts f s z d = booksAll f (busyOf f) (queueOf f s z d)
+accepts f s z d = booksAll (termsOf f) (busyOf f) (queueOf f s z d)
 
 -- the farm with the new plan in place of the old
 abbrev pub withPlan : Farm → List Job → Farm

@@ -6,3 +6,5 @@ pub mod Chain
 pub mod Order
 pub mod Sound
 pub mod Opening
+pub mod Asked
+pub mod Walk

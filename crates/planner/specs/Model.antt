@@ -15,6 +15,7 @@ use Rattle.booking.specs.declared.Booking.{Booking}
 use Rattle.booking.specs.Model.{bookingOf, bookOf}
 use Rattle.booking.specs.Best.{freeAt, chosen, units}
 use Rattle.planner.specs.declared.Job.{Job}
+use Rattle.planner.specs.declared.Terms.{Terms}
 use Rattle.planner.specs.declared.Busy.{Busy}
 use Rattle.planner.specs.declared.Farm.{Farm}
 use Rattle.planner.specs.declared.Chunk.{Chunk}
@@ -112,41 +113,57 @@ waitingOf f = take (f .waiting) (f .jobs)
 abbrev pub busyOf : Farm → Busy
 busyOf f = record { link = f .link; free = f .free }
 
--- keys of the jobs at places i, i + 1, …, by deadline, equal ones by number
-unfoldable pub deadlineKeys : ℕ → List Job → List Key
-deadlineKeys i [] = []
-deadlineKeys i (j ∷ js) = record { time = j .deadline; number = j .number; place = i } ∷ deadlineKeys (suc i) js
+abbrev pub termsOf : Farm → Terms
+termsOf f = record { costs = f .costs; nodes = f .nodes; clock = f .clock }
+
+-- keys of the jobs at places i, i + 1, …, by a time of theirs, equal ones by number
+unfoldable pub keysBy : (Job → ℕ) → ℕ → List Job → List Key
+keysBy t i [] = []
+keysBy t i (j ∷ js) = record { time = t j; number = j .number; place = i } ∷ keysBy t (suc i) js
 
 -- the jobs in the order of their keys
 abbrev pub inOrder : List Job → List Key → List Job
 inOrder js ks = map (λ (x : Key). getD js (x .place) noJob) ks
 
+abbrev pub byTime : (Job → ℕ) → List Job → List Job
+byTime t js = inOrder js (sortKeys (keysBy t 0 js))
+
+abbrev pub deadlineOf : Job → ℕ
+deadlineOf j = j .deadline
+
+abbrev pub startOf : Job → ℕ
+startOf j = j .booking .start
+
 -- jobs by deadline, equal deadlines by job number
-unfoldable pub byDeadline : List Job → List Job
-byDeadline js = inOrder js (sortKeys (deadlineKeys 0 js))
+abbrev pub byDeadline : List Job → List Job
+byDeadline = byTime deadlineOf
+
+-- jobs by start
+abbrev pub byStart : List Job → List Job
+byStart = byTime startOf
 
 -- what is asked for a job: no start before the clock or the link's free time
-abbrev pub requestOf : Farm → Busy → Job → Request
-requestOf f b j = record { costs = f .costs; nodes = f .nodes; from = max (f .clock) (b .link); size = j .size; deadline = j .deadline }
+abbrev pub requestOf : Terms → Busy → Job → Request
+requestOf w b j = record { costs = w .costs; nodes = w .nodes; from = max (w .clock) (b .link); size = j .size; deadline = j .deadline }
 
 -- a job with a booking
 abbrev pub booked : Job → Booking → Job
 booked j b = record { number = j .number; show = j .show; size = j .size; deadline = j .deadline; booking = b }
 
 -- the next job of the walk, booked
-abbrev pub step : Farm → Busy → Job → Job
-step f b j = booked j (bookOf (requestOf f b j) (b .free))
+abbrev pub step : Terms → Busy → Job → Job
+step w b j = booked j (bookOf (requestOf w b j) (b .free))
 
 -- the free times once it is booked
-abbrev pub busyAfter : Farm → Busy → Job → Busy
-busyAfter f b j = afters b (linesOf (f .costs) (step f b j))
+abbrev pub busyAfter : Terms → Busy → Job → Busy
+busyAfter w b j = afters b (linesOf (w .costs) (step w b j))
 
 -- each job in turn, behind those before it
-unfoldable pub plan : Farm → Busy → List Job → List Job
-plan f b [] = []
-plan f b (j ∷ js) = step f b j ∷ plan f (busyAfter f b j) js
+unfoldable pub plan : Terms → Busy → List Job → List Job
+plan w b [] = []
+plan w b (j ∷ js) = step w b j ∷ plan w (busyAfter w b j) js
 
 -- whether each is booked
-unfoldable pub booksAll : Farm → Busy → List Job → Bool
-booksAll f b [] = true
-booksAll f b (j ∷ js) = leb 1 (step f b j .booking .count) && booksAll f (busyAfter f b j) js
+unfoldable pub booksAll : Terms → Busy → List Job → Bool
+booksAll w b [] = true
+booksAll w b (j ∷ js) = leb 1 (step w b j .booking .count) && booksAll w (busyAfter w b j) js

@@ -10,13 +10,11 @@ use Rattle.lists.specs.Laws.{All, Pairs, Differ}
 use Rattle.shares.specs.declared.Costs.{Costs}
 use Rattle.shares.specs.Model.{finish, sum}
 use Rattle.shares.specs.Lists.{Positive}
-use Rattle.keys.specs.declared.Key.{Key}
-use Rattle.keys.specs.Model.{sortKeys}
 use Rattle.booking.specs.Best.{freeAt, chosen, units}
 use Rattle.planner.specs.declared.Job.{Job}
 use Rattle.planner.specs.declared.Busy.{Busy}
 use Rattle.planner.specs.declared.Farm.{Farm}
-use Rattle.planner.specs.Model.{greatest, between, allAtMost, allAtLeast, costsWithin, Span, spansOf, spansOfAll, after, waitingOf, busyOf, inOrder}
+use Rattle.planner.specs.Model.{greatest, between, allAtMost, allAtLeast, costsWithin, Span, spansOf, spansOfAll, after, waitingOf, busyOf, byStart}
 
 -- ---- The test
 
@@ -72,14 +70,6 @@ allDiffer (x ∷ xs) = noneOf x xs && allDiffer xs
 unfoldable pub fitAll : Busy → List Span → Bool
 fitAll b [] = true
 fitAll b (x ∷ xs) = leb (b .link) (x .chunk .start) && leb (freeAt (b .free) (x .chunk .node)) (x .from) && fitAll (after b (x .chunk)) xs
-
--- keys of the jobs at places i, i + 1, …, by start
-unfoldable pub startKeys : ℕ → List Job → List Key
-startKeys i [] = []
-startKeys i (j ∷ js) = record { time = j .booking .start; number = j .number; place = i } ∷ startKeys (suc i) js
-
-unfoldable pub byStart : List Job → List Job
-byStart js = inOrder js (sortKeys (startKeys 0 js))
 
 -- the answer to question 11
 unfoldable pub passesOf : Farm → Bool

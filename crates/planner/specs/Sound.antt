@@ -19,8 +19,8 @@ use Rattle.planner.specs.declared.Job.{Job}
 use Rattle.planner.specs.declared.Busy.{Busy}
 use Rattle.planner.specs.declared.Farm.{Farm}
 use Rattle.planner.specs.declared.Chunk.{Chunk}
-use Rattle.planner.specs.Model.{greatest, between, allAtMost, allAtLeast, costsWithin, Span, chunksFrom, linesOf, spansOf, spansOfAll, JobSized, Sized, waitingOf, busyOf}
-use Rattle.planner.specs.Passes.{figuresWithin, jobWithin, jobKept, jobsPass, noneOf, allDiffer, fitAll, byStart, passesOf, Includes, Apart, Between, CostsWithin, JobWithin, JobSound, Passes}
+use Rattle.planner.specs.Model.{greatest, between, allAtMost, allAtLeast, costsWithin, Span, chunksFrom, linesOf, spansOf, spansOfAll, JobSized, Sized, waitingOf, busyOf, byStart}
+use Rattle.planner.specs.Passes.{figuresWithin, jobWithin, jobKept, jobsPass, noneOf, allDiffer, fitAll, passesOf, Includes, Apart, Between, CostsWithin, JobWithin, JobSound, Passes}
 use Rattle.planner.specs.Chain.{Fits, fit-all-chain, Proper, Follows, chain-follows, follows-apart, job-proper}
 use Rattle.planner.specs.Order.{by-start-perm, by-start-grows}
 

@@ -17,6 +17,13 @@ pub struct Job {
     pub booking: Booking,
 }
 
+// What a walk knows of the farm besides its free times.
+pub struct Terms {
+    pub costs: Costs,
+    pub nodes: usize,
+    pub clock: u64,
+}
+
 // When the link and each node come free.
 pub struct Busy {
     pub link: u64,

@@ -1,44 +1,61 @@
+-- `planner::Farm::account` meets its contract, one return a question.
+use mathlib.Core.Path.{_≡_, refl, sym, _∙_}
+use native.Mathlib.Omega.{arith}
+use borrow.Author.Tests.{not-true, not-false}
+use Rattle.planner.specs.Rows.{between-is}
+use Rattle.planner.specs.Asked.{passes-figures, account-unsound, account-unknown, account-told}
 use borrow.Author.Needs.{needs}
 use Rattle.planner.proofs.Farm.account.Statement.{statement}
 use Rattle.planner.proofs.Farm.account.Tie as tie
-use Rattle.planner.proofs.Farm.account.Reads as reads
-use Rattle.planner.proofs.Farm.account.Lts as lts
-use Rattle.planner.proofs.calls.less.Reads as less-reads
-use Rattle.planner.proofs.passing.passes.Reads as passes-reads
-use Rattle.planner.proofs.table.is_between.Reads as is-between-reads
 
 passes-requires : tie.Need-passes-requires
 passes-requires c κs = search needs
 
 returns : tie.Need-returns
-returns c = search needs
+returns c =
+    let a = c .before .before .args in
+    record { says = sym (account-unsound (a .t1) (a .show) (sym (c .before .passes .ensures) ∙ not-true _ (c .if1 .taken))); hands = refl }
 
 is-between-requires : tie.Need-is-between-requires
 is-between-requires c κs = search needs
 
 returns-2 : tie.Need-returns-2
-returns-2 c = search needs
+returns-2 c =
+    let a = c .before .before .before .before .args in
+    record { says = sym (account-unknown (a .t1) (a .show) (sym (c .before .before .before .passes .ensures) ∙ not-false _ (c .before .before .if1 .left)) (sym (c .before .is-between .ensures) ∙ not-true _ (c .if2 .taken))); hands = refl }
 
 sub-place : tie.Need-sub-place
-sub-place c = search needs
+sub-place c =
+    let a = c .before .before .before .before .args in
+    omega (arith, passes-figures (a .t1) (sym (c .before .before .before .passes .ensures) ∙ not-false _ (c .before .before .if1 .left)) .shows, between-is 1 (a .show) (a .t1 .shows) (sym (c .before .is-between .ensures) ∙ not-false _ (c .if2 .left)))
 
 mul-held : tie.Need-mul-held
-mul-held c = search needs
+mul-held c =
+    let a = c .before .before .before .before .args in
+    omega (arith, passes-figures (a .t1) (sym (c .before .before .before .passes .ensures) ∙ not-false _ (c .before .before .if1 .left)) .shows, between-is 1 (a .show) (a .t1 .shows) (sym (c .before .is-between .ensures) ∙ not-false _ (c .if2 .left)))
 
 element-copy-out-held : tie.Need-element-copy-out-held
-element-copy-out-held c = search needs
+element-copy-out-held c =
+    let a = c .before .before .before .before .args in
+    omega (arith, passes-figures (a .t1) (sym (c .before .before .before .passes .ensures) ∙ not-false _ (c .before .before .if1 .left)) .shows, between-is 1 (a .show) (a .t1 .shows) (sym (c .before .is-between .ensures) ∙ not-false _ (c .if2 .left)))
 
 mul-allowance : tie.Need-mul-allowance
-mul-allowance c = search needs
+mul-allowance c =
+    let a = c .before .before .before .before .before .args in
+    omega (arith, passes-figures (a .t1) (sym (c .before .before .before .before .passes .ensures) ∙ not-false _ (c .before .before .before .if1 .left)) .shows, between-is 1 (a .show) (a .t1 .shows) (sym (c .before .before .is-between .ensures) ∙ not-false _ (c .before .if2 .left)))
 
 element-copy-out-allowance : tie.Need-element-copy-out-allowance
-element-copy-out-allowance c = search needs
+element-copy-out-allowance c =
+    let a = c .before .before .before .before .before .args in
+    omega (arith, passes-figures (a .t1) (sym (c .before .before .before .before .passes .ensures) ∙ not-false _ (c .before .before .before .if1 .left)) .shows, between-is 1 (a .show) (a .t1 .shows) (sym (c .before .before .is-between .ensures) ∙ not-false _ (c .before .if2 .left)))
 
 less-requires : tie.Need-less-requires
 less-requires c κs = search needs
 
 returns-3 : tie.Need-returns-3
-returns-3 c = search needs
+returns-3 c =
+    let a = c .before .before .before .before .before .before .before .args in
+    record { says = rw (c .less .ensures) (sym (account-told (a .t1) (a .show) (sym (c .before .before .before .before .before .before .passes .ensures) ∙ not-false _ (c .before .before .before .before .before .if1 .left)) (sym (c .before .before .before .before .is-between .ensures) ∙ not-false _ (c .before .before .before .if2 .left)))); hands = refl }
 
 pub account-spec : {M : Type 1} → statement M
 account-spec =
