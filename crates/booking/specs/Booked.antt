@@ -28,7 +28,7 @@ use Rattle.booking.specs.Rank.{IsKey, IsRank, ranked-is}
 use Rattle.booking.specs.Choose.{sorted-early, no-more, free-by, before-all, first-before, times-grow}
 
 -- a share list of some units has a first share
-some-share : (xs : List ℕ) → 1 ≤ sum xs → 1 ≤ length xs
+pub some-share : (xs : List ℕ) → 1 ≤ sum xs → 1 ≤ length xs
 unfolding sum
 some-share [] h = absurd (omega arith)
 some-share (x ∷ xs) h = omega arith

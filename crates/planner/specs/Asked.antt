@@ -12,11 +12,11 @@ use Rattle.planner.specs.Passes.{figuresWithin, jobsPass, JobWithin, pas
 use Rattle.planner.specs.Sound.{Figures, Kept, says-figures, says-jobs}
 use Rattle.planner.specs.Calls.{Said, granted, refused, heldBy, allowanceOf, accountSaid}
 
-and-left : (a b : Bool) → (a && b) ≡ true → a ≡ true
+pub and-left : (a b : Bool) → (a && b) ≡ true → a ≡ true
 and-left true b e = refl
 and-left false b e = absurd (false≢true e)
 
-and-right : (a b : Bool) → (a && b) ≡ true → b ≡ true
+pub and-right : (a b : Bool) → (a && b) ≡ true → b ≡ true
 and-right true b e = e
 and-right false b e = absurd (false≢true e)
 

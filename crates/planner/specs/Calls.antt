@@ -16,7 +16,7 @@ use Rattle.planner.specs.declared.Question.{Question}
 use Rattle.planner.specs.declared.Answer.{Answer}
 use Rattle.planner.specs.declared.Question.the-variants as question
 use Rattle.planner.specs.declared.Answer.the-variants as answer
-use Rattle.planner.specs.Model.{greatest, between, allAtMost, costsWithin, emptyJob, noJob, waitingOf, termsOf, busyOf, byDeadline, plan, booksAll}
+use Rattle.planner.specs.Model.{greatest, between, allAtMost, costsWithin, emptyJob, waitingOf, termsOf, busyOf, byDeadline, plan, booksAll}
 use Rattle.planner.specs.Passes.{passesOf}
 
 -- ---- Answers
@@ -133,9 +133,9 @@ planned f s z d = plan (termsOf f) (busyOf f) (queueOf f s z d)
 abbrev pub accepts : Farm → ℕ → ℕ → ℕ → Bool
 accepts f s z d = booksAll (termsOf f) (busyOf f) (queueOf f s z d)
 
--- the farm with the new plan in place of the old
-abbrev pub withPlan : Farm → List Job → Farm
-withPlan f js = record {
+-- the farm with one job more, and these jobs
+abbrev pub nextFarm : Farm → List Job → Farm
+nextFarm f js = record {
   opened = f .opened;
   nodes = f .nodes;
   costs = f .costs;
@@ -147,12 +147,16 @@ withPlan f js = record {
   free = f .free;
   used = f .used + 1;
   waiting = f .waiting + 1;
-  jobs = js ++ drop (f .waiting + 1) (f .jobs);
+  jobs = js;
 }
 
--- the job of a number
+-- the farm with the new plan in place of the old
+abbrev pub withPlan : Farm → List Job → Farm
+withPlan f js = nextFarm f (js ++ drop (f .waiting + 1) (f .jobs))
+
+-- the job of a number (the empty job where there is none)
 unfoldable pub ofNumber : ℕ → List Job → Job
-ofNumber n [] = noJob
+ofNumber n [] = emptyJob
 ofNumber n (j ∷ js) = cond (eqb (j .number) n) j (ofNumber n js)
 
 -- job, start, finish and count of nodes

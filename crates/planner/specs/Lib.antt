@@ -8,3 +8,5 @@ pub mod Sound
 pub mod Opening
 pub mod Asked
 pub mod Walk
+pub mod Demand2
+pub mod Offer

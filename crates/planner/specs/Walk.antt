@@ -56,12 +56,14 @@ occupy-step : (c : Costs) (b : Busy) (j s t i : ℕ) (ks xs : List ℕ) → i < 
 unfolding afters chunksFrom
 occupy-step c b j s t i ks xs h k = rw (drop-cons ks i 0 h, drop-cons xs i 0 k, add-one i)
 
+finish-step : (c : Costs) (t i : ℕ) (xs : List ℕ) → i < length xs
+    → finish c t (drop i xs) ≡ max (chunkFinish c t (getD xs i 0)) (finish c (sendEnd c t (getD xs i 0)) (drop (i + 1) xs))
+unfolding finish
+finish-step c t i xs h = rw (drop-cons xs i 0 h, add-one i)
+
 ends-step : (c : Costs) (t i g : ℕ) (xs : List ℕ) → i < length xs → finish c t (drop i xs) ≤ g
     → (chunkFinish c t (getD xs i 0) ≤ g) × (finish c (sendEnd c t (getD xs i 0)) (drop (i + 1) xs) ≤ g)
-unfolding finish
-ends-step c t i g xs h e =
-    let d : max (chunkFinish c t (getD xs i 0)) (finish c (sendEnd c t (getD xs i 0)) (drop (i + 1) xs)) ≤ g = rw (add-one i) (rw (drop-cons xs i 0 h) at e) in
-    (omega arith, omega arith)
+ends-step c t i g xs h e = let d = finish-step c t i xs h in (omega arith, omega arith)
 
 -- The same over a booking's arrays, of which the first n cells count.
 module _ (c : Costs) (nodes shares : List ℕ) (n i : ℕ) (h : i < n) (f : length (take n nodes) ≡ n) (g : length (take n shares) ≡ n) where
@@ -81,6 +83,10 @@ module _ (c : Costs) (nodes shares : List ℕ) (n i : ℕ) (h : i < n) (f : leng
       ≡ afters (record { link = sendEnd c t (getD shares i 0); free = set (b .free) (getD nodes i 0 - 1) (chunkFinish c t (getD shares i 0)) })
         (chunksFrom c j s (sendEnd c t (getD shares i 0)) (drop (i + 1) (take n nodes)) (drop (i + 1) (take n shares)))
   occupy-next b j s t = rw (← node-at, ← unit-at) (occupy-step c b j s t i (take n nodes) (take n shares) (omega arith) (omega arith))
+
+  -- The latest finish, one chunk further.
+  pub latest-next : (t : ℕ) → finish c t (drop i (take n shares)) ≡ max (chunkFinish c t (getD shares i 0)) (finish c (sendEnd c t (getD shares i 0)) (drop (i + 1) (take n shares)))
+  latest-next t = subst (λ (a : ℕ). finish c t (drop i (take n shares)) ≡ max (chunkFinish c t a) (finish c (sendEnd c t a) (drop (i + 1) (take n shares)))) unit-at (finish-step c t i (take n shares) (omega arith))
 
   -- Its finish and those behind it are within the time range.
   pub ends-next : (t : ℕ) → finish c t (drop i (take n shares)) ≤ greatest

@@ -1,17 +1,31 @@
 // The calls on a farm.
 ghost use mathlib.Core.Path.{_≡_};
 ghost use Prim.Native.Nat.{_-_, _≤_};
-ghost use mathlib.Core.List.{_++_};
-ghost use lib.ListN.{length, replicate};
+ghost use mathlib.Core.List.{[], _++_};
+ghost use lib.ListN.{length, take, replicate};
+ghost use Rattle.shares.specs.Model.{finish};
+ghost use Rattle.booking.specs.Best.{units};
+ghost use Rattle.planner.specs.Walk.{Sends};
+ghost use Rattle.planner.specs.Offer.{Offered, PlanWith, Accepting, Accepts};
+ghost use Rattle.booking.specs.Model.{bookingOf};
 ghost use Rattle.planner.specs.Model.{emptyJob};
-ghost use Rattle.planner.specs.Calls.{Replies, unopened, openSaid, openFarm, accountSaid};
+ghost use Rattle.planner.specs.Calls.{Replies, unopened, openSaid, openFarm, accountSaid, ofNumber, offerSaid, offerFarm};
 use crate::Answer;
 use crate::Farm;
+use crate::walk::by_deadline;
+use crate::walk::later;
+use crate::walk::walked;
+use crate::walk::wide32;
+use crate::walk::Plan;
+use crate::Busy;
 use crate::Job;
+use crate::Terms;
 use crate::Question;
 use crate::Reply;
 use crate::passing::passes;
 use crate::table::all_at_most;
+use crate::table::deadline_within;
+use crate::table::place_left;
 use crate::table::costs_within;
 use crate::table::is_between;
 use booking::Booking;
@@ -120,22 +134,44 @@ impl Farm {
         }
     }
 
+    // An offer: questions 11, 4, 5, 6, 7 and 8 in that order.
+    pub fn offer(self, show: u64, size: u64, deadline: u64) -> Reply
+        ensures { λ r. ⌜ Replies r (offerSaid self show size deadline) (offerFarm self show size deadline) ⌝ }
+    {
+        if !passes(self) {
+            return refused(self, Question::Farm);
+        }
+        if !is_between(1, show, self.shows as u64) {
+            return refused(self, Question::Show);
+        }
+        if !is_between(1, size, 1000000) {
+            return refused(self, Question::Size);
+        }
+        if !deadline_within(self.clock, deadline) {
+            return refused(self, Question::Deadline);
+        }
+        if !place_left(self.waiting, self.used) {
+            return refused(self, Question::Queue);
+        }
+        let job = new_job(self.used + 1, show, size as u32, deadline);
+        let plan = walk_with(self, job);
+        if !plan.ok {
+            return refused(self, Question::Walk);
+        }
+        let jobs = plan.jobs;
+        accepted(self, jobs)
+    }
+
     // What a show has held, and what it is charged: the held ticks above its allowance.
     pub fn account(self, show: u64) -> Reply
         ensures { λ r. ⌜ Replies r (accountSaid self show) self ⌝ }
     {
         if !passes(self) {
-            return Reply {
-                answer: Answer::No(Question::Farm),
-                farm: self,
-            };
+            return refused(self, Question::Farm);
         }
         let shows = self.shows;
         if !is_between(1, show, shows as u64) {
-            return Reply {
-                answer: Answer::No(Question::Show),
-                farm: self,
-            };
+            return refused(self, Question::Show);
         }
         let place = (show - 1) as usize;
         let held = self.held[place];
@@ -149,6 +185,114 @@ impl Farm {
             farm: self,
         }
     }
+}
+
+// The job of a number among the first `count`; the empty job where there is none.
+fn of_number(jobs: [Job; 128], count: usize, number: u64) -> Job
+    requires { ⌜ count ≤ 128 ⌝ }
+    ensures { λ r. ⌜ r ≡ ofNumber number (take count jobs) ⌝ }
+{
+    let mut i = 0;
+    while i < count {
+        let job = jobs[i];
+        if job.number == number {
+            return job;
+        }
+        i += 1;
+    }
+    empty_job()
+}
+
+// When a booked job finishes: its latest chunk's finish.
+fn finish_of(costs: Costs, job: Job) -> u64
+    requires { ⌜ Sends costs job ⌝ }
+    ensures { λ r. ⌜ r ≡ finish costs (job .booking .start) (units (job .booking)) ⌝ }
+{
+    let booking = job.booking;
+    let shares = booking.shares;
+    let count = booking.count;
+    let mut time = booking.start;
+    let mut latest = booking.start;
+    let mut i = 0;
+    while i < count {
+        let share = wide32(shares[i]);
+        let sent = time + (costs.link + share * costs.send);
+        latest = later(latest, sent + (costs.node + share * costs.compute));
+        time = sent;
+        i += 1;
+    }
+    latest
+}
+
+// The walk of the waiting jobs and a new one.
+fn walk_with(farm: Farm, job: Job) -> Plan
+    requires { ⌜ Offered farm job ⌝ }
+    ensures { λ r. ⌜ PlanWith farm job (r .ok) (r .jobs) ⌝ }
+{
+    let waiting = farm.waiting;
+    let mut jobs = farm.jobs;
+    jobs[waiting] = job;
+    let ordered = by_deadline(jobs, waiting + 1);
+    let costs = farm.costs;
+    let terms = Terms {
+        costs,
+        nodes: farm.nodes,
+        clock: farm.clock,
+    };
+    let free = farm.free;
+    let busy = Busy {
+        link: farm.link,
+        free,
+    };
+    walked(terms, busy, ordered, waiting + 1)
+}
+
+// The reply to an accepted offer: the plan replaces the old one.
+fn accepted(farm: Farm, jobs: [Job; 128]) -> Reply
+    requires { ⌜ Accepting farm jobs ⌝ }
+    ensures { λ r. ⌜ Accepts farm jobs r ⌝ }
+{
+    let number = farm.used + 1;
+    let count = farm.waiting + 1;
+    let job = of_number(jobs, count, number);
+    let costs = farm.costs;
+    let finish = finish_of(costs, job);
+    let booking = job.booking;
+    let mut next = farm;
+    next.used = number;
+    next.waiting = count;
+    next.jobs = jobs;
+    Reply {
+        answer: Answer::Yes {
+            job: job.number,
+            start: booking.start,
+            finish,
+            nodes: booking.count as u64,
+        },
+        farm: next,
+    }
+}
+
+// A refusal hands back the farm as it was.
+fn refused(farm: Farm, question: Question) -> Reply
+    ensures { λ r. ⌜ r ≡ record { answer = Answer.No question; farm = farm } ⌝ }
+{
+    Reply {
+        answer: Answer::No(question),
+        farm,
+    }
+}
+
+// The job that is offered, not booked yet.
+fn new_job(number: u64, show: u64, size: u32, deadline: u64) -> Job
+    ensures { λ r. ⌜ r ≡ record { number = number; show = show; size = size; deadline = deadline; booking = bookingOf 0 [] [] } ⌝ }
+{
+    let mut job = empty_job();
+    job.number = number;
+    job.show = show;
+    job.size = size;
+    job.deadline = deadline;
+    job
 }
 
 // The difference, and 0 where there is none.

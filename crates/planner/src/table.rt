@@ -1,6 +1,8 @@
 // The limits of document 01's table.
 ghost use mathlib.Core.Path.{_≡_};
-ghost use Rattle.planner.specs.Model.{between, allAtMost, costsWithin};
+ghost use Rattle.planner.specs.Model.{between, allAtMost, costsWithin, greatest};
+ghost use mathlib.Core.Bool.{_&&_};
+ghost use lib.Dec.{leb, ltb};
 use shares::Costs;
 
 pub fn is_between(low: u64, x: u64, high: u64) -> bool
@@ -40,4 +42,24 @@ pub fn all_at_most(limit: u64, row: &[u64]) -> bool
         i += 1;
     }
     true
+}
+
+// Whether a deadline is after the clock and within the time range.
+pub fn deadline_within(clock: u64, deadline: u64) -> bool
+    ensures { λ r. ⌜ r ≡ (ltb clock deadline && leb deadline greatest) ⌝ }
+{
+    if deadline <= clock {
+        return false;
+    }
+    deadline <= 1000000000000
+}
+
+// Whether fewer than 128 jobs wait and a job number is left.
+pub fn place_left(waiting: usize, used: u64) -> bool
+    ensures { λ r. ⌜ r ≡ (ltb waiting 128 && ltb used greatest) ⌝ }
+{
+    if 128 <= waiting {
+        return false;
+    }
+    used < 1000000000000
 }

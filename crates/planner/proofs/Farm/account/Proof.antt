@@ -1,7 +1,9 @@
 -- `planner::Farm::account` meets its contract, one return a question.
-use mathlib.Core.Path.{_≡_, refl, sym, _∙_}
+use mathlib.Core.Path.{_≡_, refl, sym, ap, _∙_}
 use native.Mathlib.Omega.{arith}
 use borrow.Author.Tests.{not-true, not-false}
+use Rattle.planner.specs.declared.Reply.{Reply}
+use Rattle.planner.specs.Calls.{said}
 use Rattle.planner.specs.Rows.{between-is}
 use Rattle.planner.specs.Asked.{passes-figures, account-unsound, account-unknown, account-told}
 use borrow.Author.Needs.{needs}
@@ -11,18 +13,30 @@ use Rattle.planner.proofs.Farm.account.Tie as tie
 passes-requires : tie.Need-passes-requires
 passes-requires c κs = search needs
 
+refused-requires : tie.Need-refused-requires
+refused-requires c κs = search needs
+
 returns : tie.Need-returns
 returns c =
-    let a = c .before .before .args in
-    record { says = sym (account-unsound (a .t1) (a .show) (sym (c .before .passes .ensures) ∙ not-true _ (c .if1 .taken))); hands = refl }
+    let a = c .before .before .before .args in
+    record
+      { says = ap (λ (x : Reply). said (x .answer)) (c .refused .ensures) ∙ sym (account-unsound (a .t1) (a .show) (sym (c .before .before .passes .ensures) ∙ not-true _ (c .before .if1 .taken)))
+      ; hands = ap (λ (x : Reply). x .farm) (c .refused .ensures)
+      }
 
 is-between-requires : tie.Need-is-between-requires
 is-between-requires c κs = search needs
 
+refused-requires-2 : tie.Need-refused-requires-2
+refused-requires-2 c κs = search needs
+
 returns-2 : tie.Need-returns-2
 returns-2 c =
-    let a = c .before .before .before .before .args in
-    record { says = sym (account-unknown (a .t1) (a .show) (sym (c .before .before .before .passes .ensures) ∙ not-false _ (c .before .before .if1 .left)) (sym (c .before .is-between .ensures) ∙ not-true _ (c .if2 .taken))); hands = refl }
+    let a = c .before .before .before .before .before .args in
+    record
+      { says = ap (λ (x : Reply). said (x .answer)) (c .refused2 .ensures) ∙ sym (account-unknown (a .t1) (a .show) (sym (c .before .before .before .before .passes .ensures) ∙ not-false _ (c .before .before .before .if1 .left)) (sym (c .before .before .is-between .ensures) ∙ not-true _ (c .before .if2 .taken)))
+      ; hands = ap (λ (x : Reply). x .farm) (c .refused2 .ensures)
+      }
 
 sub-place : tie.Need-sub-place
 sub-place c =
@@ -62,8 +76,10 @@ account-spec =
     tie.close
     (tie.spec
     passes-requires
+    refused-requires
     returns
     is-between-requires
+    refused-requires-2
     returns-2
     sub-place
     mul-held
