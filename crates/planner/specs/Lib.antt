@@ -2,6 +2,7 @@ pub mod Model
 pub mod Passes
 pub mod Calls
 pub mod Rows
+pub mod Tests
 pub mod Chain
 pub mod Order
 pub mod Sound

@@ -89,9 +89,10 @@ module _ (f : Farm) (s z d : ℕ) where
 -- The waiting jobs and the new one, in the array.
 pub with-new : (f : Farm) (j : Job) → f .waiting < length (f .jobs)
     → (take (f .waiting + 1) (set (f .jobs) (f .waiting) j) ≡ waitingOf f ++ j ∷ []) × (drop (f .waiting + 1) (set (f .jobs) (f .waiting) j) ≡ drop (f .waiting + 1) (f .jobs))
-with-new f j h =
-    ( rw (add-one (f .waiting)) (take-suc-set (f .jobs) (f .waiting) j h)
-    , drop-set-lt (f .waiting + 1) (f .jobs) (f .waiting) j (omega arith) )
+with-new f j h = (
+  rw (add-one (f .waiting)) (take-suc-set (f .jobs) (f .waiting) j h),
+  drop-set-lt (f .waiting + 1) (f .jobs) (f .waiting) j (omega arith),
+)
 
 -- The array of the jobs in order: those that are walked, and what was behind the waiting jobs.
 pub ordered-is : (f : Farm) (j : Job) (js : List Job) → f .waiting < length (f .jobs)
@@ -101,7 +102,7 @@ ordered-is f j js h e =
     let n = with-new f j h in
     let q = byDeadline (waitingOf f ++ j ∷ []) in
     let l : length q ≡ f .waiting + 1 =
-        sym (perm-length (by-deadline-perm (waitingOf f ++ j ∷ []))) ∙ length-append (waitingOf f) (j ∷ []) ∙ ap (λ (x : ℕ). x + 1) (length-take-le (f .waiting) (f .jobs) (omega arith)) in
+    sym (perm-length (by-deadline-perm (waitingOf f ++ j ∷ []))) ∙ length-append (waitingOf f) (j ∷ []) ∙ ap (λ (x : ℕ). x + 1) (length-take-le (f .waiting) (f .jobs) (omega arith)) in
     let w : js ≡ q ++ drop (f .waiting + 1) (f .jobs) = e ∙ rw (n .0, n .1) in
     (rw w (take-at q (drop (f .waiting + 1) (f .jobs)) (f .waiting + 1) l), rw w (drop-at q (drop (f .waiting + 1) (f .jobs)) (f .waiting + 1) l))
 
@@ -115,9 +116,10 @@ plan-length w b (j ∷ js) = ap suc (plan-length w (busyAfter w b j) js)
 pub plan-sends : (w : Terms) (b : Busy) (js : List Job) → w .nodes ≤ 64 → length (b .free) ≡ 64 → All (λ (j : Job). j .deadline ≤ greatest) js → BestAll w b js → All (Sends (w .costs)) (plan w b js)
 unfolding plan
 plan-sends w b [] n l r a = tt
-plan-sends w b (j ∷ js) n l r a =
-    ( best-sends (requestOf w b j) (b .free) (step w b j) n (omega arith) (r .0) (a .0)
-    , plan-sends w (busyAfter w b j) js n (afters-length b (linesOf (w .costs) (step w b j)) ∙ l) (r .1) (a .1) )
+plan-sends w b (j ∷ js) n l r a = (
+  best-sends (requestOf w b j) (b .free) (step w b j) n (omega arith) (r .0) (a .0),
+  plan-sends w (busyAfter w b j) js n (afters-length b (linesOf (w .costs) (step w b j)) ∙ l) (r .1) (a .1),
+)
 
 -- What holds of each job and of the empty one holds of the job of a number.
 pub of-number : (P : Job → Type 0) (n : ℕ) (js : List Job) → All P js → P emptyJob → P (ofNumber n js)
@@ -154,12 +156,12 @@ pub record PlanWith (f : Farm) (j : Job) (ok : Bool) (out : List Job) : Type 0 w
 pub walk-ready : (f : Farm) (j : Job) → Offered f j → Ready (termsOf f) (byDeadline (waitingOf f ++ j ∷ []))
 walk-ready f j o =
     let g = passes-figures f (o .passes) in
-    record
-      { answered = answered (f .costs) (f .nodes) (g .costs .send .0) (g .nodes .1)
-      ; jobs = perm-all (λ (x : Job). (1 ≤ x .size) × (x .deadline ≤ greatest)) (by-deadline-perm (waitingOf f ++ j ∷ []))
+    record {
+      answered = answered (f .costs) (f .nodes) (g .costs .send .0) (g .nodes .1);
+      jobs = perm-all (λ (x : Job). (1 ≤ x .size) × (x .deadline ≤ greatest)) (by-deadline-perm (waitingOf f ++ j ∷ []))
           (all-join (λ (x : Job). (1 ≤ x .size) × (x .deadline ≤ greatest)) (waitingOf f) (j ∷ [])
-          (all-map (λ x a. (a .0 .size .0, a .0 .deadline)) (waitingOf f) (passes-jobs f (o .passes))) ((o .size, o .deadline), tt))
-      }
+          (all-map (λ x a. (a .0 .size .0, a .0 .deadline)) (waitingOf f) (passes-jobs f (o .passes))) ((o .size, o .deadline), tt));
+    }
 
 -- The job of a number, one by one.
 pub number-next : (n i : ℕ) (js : List Job) → i < length js → ofNumber n (drop i js) ≡ cond (eqb (getD js i noJob .number) n) (getD js i noJob) (ofNumber n (drop (i + 1) js))
@@ -188,7 +190,7 @@ module _ (f : Farm) (j : Job) (o : Offered f j) (sized : length (f .free) ≡ 64
   plan-jobs =
       let q = byDeadline (waitingOf f ++ j ∷ []) in
       let l : length q ≡ f .waiting + 1 =
-          sym (perm-length (by-deadline-perm (waitingOf f ++ j ∷ []))) ∙ length-append (waitingOf f) (j ∷ []) ∙ ap (λ (x : ℕ). x + 1) (length-take-le (f .waiting) (f .jobs) (omega (arith, o .waiting))) in
+      sym (perm-length (by-deadline-perm (waitingOf f ++ j ∷ []))) ∙ length-append (waitingOf f) (j ∷ []) ∙ ap (λ (x : ℕ). x + 1) (length-take-le (f .waiting) (f .jobs) (omega (arith, o .waiting))) in
       rw (p .plans yes′) (take-at (plan (termsOf f) (busyOf f) q) (drop (f .waiting + 1) (f .jobs)) (f .waiting + 1) (plan-length (termsOf f) (busyOf f) q ∙ l))
 
   pub accepting : f .used < greatest → Accepting f out
@@ -196,8 +198,8 @@ module _ (f : Farm) (j : Job) (o : Offered f j) (sized : length (f .free) ≡ 64
       let r = walk-ready f j o in
       let g = passes-figures f (o .passes) in
       let best = walk-best (termsOf f) (busyOf f) (byDeadline (waitingOf f ++ j ∷ [])) r (omega (arith, g .nodes .1)) (sym (p .books) ∙ yes′) in
-      record
-        { waiting = o .waiting
-        ; used = u
-        ; sends = rw plan-jobs (plan-sends (termsOf f) (busyOf f) (byDeadline (waitingOf f ++ j ∷ [])) (g .nodes .1) sized (all-map (λ x a. a .1) (byDeadline (waitingOf f ++ j ∷ [])) (r .jobs)) best)
-        }
+      record {
+        waiting = o .waiting;
+        used = u;
+        sends = rw plan-jobs (plan-sends (termsOf f) (busyOf f) (byDeadline (waitingOf f ++ j ∷ [])) (g .nodes .1) sized (all-map (λ x a. a .1) (byDeadline (waitingOf f ++ j ∷ [])) (r .jobs)) best);
+      }

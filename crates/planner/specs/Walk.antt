@@ -81,7 +81,7 @@ module _ (c : Costs) (nodes shares : List ℕ) (n i : ℕ) (h : i < n) (f : leng
   pub occupy-next : (b : Busy) (j s t : ℕ)
       → afters b (chunksFrom c j s t (drop i (take n nodes)) (drop i (take n shares)))
       ≡ afters (record { link = sendEnd c t (getD shares i 0); free = set (b .free) (getD nodes i 0 - 1) (chunkFinish c t (getD shares i 0)) })
-        (chunksFrom c j s (sendEnd c t (getD shares i 0)) (drop (i + 1) (take n nodes)) (drop (i + 1) (take n shares)))
+      (chunksFrom c j s (sendEnd c t (getD shares i 0)) (drop (i + 1) (take n nodes)) (drop (i + 1) (take n shares)))
   occupy-next b j s t = rw (← node-at, ← unit-at) (occupy-step c b j s t i (take n nodes) (take n shares) (omega arith) (omega arith))
 
   -- The latest finish, one chunk further.
@@ -108,13 +108,13 @@ unfolding bookingOf
 best-sends q free j f h d x =
     let k : j .booking .count ≡ length (chosen (j .booking)) = ap (λ (y : Booking). y .count) (x .blank) in
     let m : length (chosen (j .booking)) ≤ q .nodes = no-more (q .nodes) free (ranked (q .nodes) free) (ranked-is (q .nodes) free h) (chosen (j .booking)) (x .best .choice .known) (x .best .choice .differ) in
-    record
-      { few = omega arith
-      ; nodes = sym k
-      ; shares = sym (k ∙ x .best .choice .paired)
-      ; known = all-map (λ y a. (a .0, omega (arith, a .1))) (chosen (j .booking)) (x .best .choice .known)
-      ; ends = omega (arith, x .best .choice .ends)
-      }
+    record {
+      few = omega arith;
+      nodes = sym k;
+      shares = sym (k ∙ x .best .choice .paired);
+      known = all-map (λ y a. (a .0, omega (arith, a .1))) (chosen (j .booking)) (x .best .choice .known);
+      ends = omega (arith, x .best .choice .ends);
+    }
 
 books-drop : (w : Terms) (b : Busy) (js : List Job) (i : ℕ) → i < length js
     → booksAll w b (drop i js) ≡ (leb 1 (step w b (getD js i noJob) .booking .count) && booksAll w (busyAfter w b (getD js i noJob)) (drop (i + 1) js))
@@ -148,7 +148,7 @@ module _ (w : Terms) (jobs : List Job) (n i : ℕ) (h : i < n) (f : n ≤ length
       → whole ≡ take (i + 1) (set out i (step w b (getD jobs i noJob))) ++ plan w (busyAfter w b (getD jobs i noJob)) (drop (i + 1) (take n jobs))
   plan-next out k whole e =
       let p : plan w b (drop i (take n jobs)) ≡ step w b (getD jobs i noJob) ∷ plan w (busyAfter w b (getD jobs i noJob)) (drop (i + 1) (take n jobs)) =
-          subst (λ (j : Job). plan w b (drop i (take n jobs)) ≡ step w b j ∷ plan w (busyAfter w b j) (drop (i + 1) (take n jobs))) job-at (plan-drop w b (take n jobs) i in-list) in
+      subst (λ (j : Job). plan w b (drop i (take n jobs)) ≡ step w b j ∷ plan w (busyAfter w b j) (drop (i + 1) (take n jobs))) job-at (plan-drop w b (take n jobs) i in-list) in
       let t : take (i + 1) (set out i (step w b (getD jobs i noJob))) ≡ take i out ++ step w b (getD jobs i noJob) ∷ [] =
-          rw (add-one i) (take-suc-set out i (step w b (getD jobs i noJob)) k) in
+      rw (add-one i) (take-suc-set out i (step w b (getD jobs i noJob)) k) in
       e ∙ ap (λ (x : List Job). take i out ++ x) p ∙ sym (ap (λ (x : List Job). x ++ plan w (busyAfter w b (getD jobs i noJob)) (drop (i + 1) (take n jobs))) t ∙ append-assoc (take i out) _ _)

@@ -19,10 +19,10 @@ refused-requires c κs = search needs
 returns : tie.Need-returns
 returns c =
     let a = c .before .before .before .args in
-    record
-      { says = ap (λ (x : Reply). said (x .answer)) (c .refused .ensures) ∙ sym (account-unsound (a .t1) (a .show) (sym (c .before .before .passes .ensures) ∙ not-true _ (c .before .if1 .taken)))
-      ; hands = ap (λ (x : Reply). x .farm) (c .refused .ensures)
-      }
+    record {
+      says = ap (λ (x : Reply). said (x .answer)) (c .refused .ensures) ∙ sym (account-unsound (a .t1) (a .show) (sym (c .before .before .passes .ensures) ∙ not-true _ (c .before .if1 .taken)));
+      hands = ap (λ (x : Reply). x .farm) (c .refused .ensures);
+    }
 
 is-between-requires : tie.Need-is-between-requires
 is-between-requires c κs = search needs
@@ -33,10 +33,10 @@ refused-requires-2 c κs = search needs
 returns-2 : tie.Need-returns-2
 returns-2 c =
     let a = c .before .before .before .before .before .args in
-    record
-      { says = ap (λ (x : Reply). said (x .answer)) (c .refused2 .ensures) ∙ sym (account-unknown (a .t1) (a .show) (sym (c .before .before .before .before .passes .ensures) ∙ not-false _ (c .before .before .before .if1 .left)) (sym (c .before .before .is-between .ensures) ∙ not-true _ (c .before .if2 .taken)))
-      ; hands = ap (λ (x : Reply). x .farm) (c .refused2 .ensures)
-      }
+    record {
+      says = ap (λ (x : Reply). said (x .answer)) (c .refused2 .ensures) ∙ sym (account-unknown (a .t1) (a .show) (sym (c .before .before .before .before .passes .ensures) ∙ not-false _ (c .before .before .before .if1 .left)) (sym (c .before .before .is-between .ensures) ∙ not-true _ (c .before .if2 .taken)));
+      hands = ap (λ (x : Reply). x .farm) (c .refused2 .ensures);
+    }
 
 sub-place : tie.Need-sub-place
 sub-place c =

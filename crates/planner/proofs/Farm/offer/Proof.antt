@@ -25,7 +25,7 @@ returns : tie.Need-returns
 returns c =
     let a = c .before .before .before .args in
     offer-refused (a .self) (a .show) (a .size) (a .deadline) (c .refused .result) _ (c .refused .ensures)
-    (asked-farm (a .self) (a .show) (a .size) (a .deadline)  (sym (c .before .before .passes .ensures) ∙ not-true _ (c .before .if1 .taken))) refl
+    (asked-farm (a .self) (a .show) (a .size) (a .deadline) (sym (c .before .before .passes .ensures) ∙ not-true _ (c .before .if1 .taken))) refl
 
 is-between-requires : tie.Need-is-between-requires
 is-between-requires c κs = search needs
@@ -95,7 +95,7 @@ walk-with-requires c κs =
     let deadline = deadline-is (a .self .clock) (a .deadline) (sym (c .before .before .before .before .before .deadline-within .ensures) ∙ not-false _ (c .before .before .before .before .if4 .left)) in
     let place = place-is (a .self .waiting) (a .self .used) (sym (c .before .before .before .place-left .ensures) ∙ not-false _ (c .before .before .if5 .left)) in
     let offered : Offered (a .self) (newJob (a .self) (a .show) (a .size) (a .deadline)) =
-        record { passes = (sym (c .before .before .before .before .before .before .before .before .before .before .before .passes .ensures) ∙ not-false _ (c .before .before .before .before .before .before .before .before .before .before .if1 .left)); size = size .0; deadline = deadline .1; waiting = place .0 } in
+    record { passes = (sym (c .before .before .before .before .before .before .before .before .before .before .before .passes .ensures) ∙ not-false _ (c .before .before .before .before .before .before .before .before .before .before .if1 .left)); size = size .0; deadline = deadline .1; waiting = place .0 } in
     subst (Offered (a .self)) (sym (c .new-job .ensures)) offered
 
 refused-requires-6 : tie.Need-refused-requires-6
@@ -116,10 +116,10 @@ accepted-requires c κs =
     let deadline = deadline-is (a .self .clock) (a .deadline) (sym (c .before .before .before .before .before .before .before .before .before .deadline-within .ensures) ∙ not-false _ (c .before .before .before .before .before .before .before .before .if4 .left)) in
     let place = place-is (a .self .waiting) (a .self .used) (sym (c .before .before .before .before .before .before .before .place-left .ensures) ∙ not-false _ (c .before .before .before .before .before .before .if5 .left)) in
     let offered : Offered (a .self) (newJob (a .self) (a .show) (a .size) (a .deadline)) =
-        record { passes = (sym (c .before .before .before .before .before .before .before .before .before .before .before .before .before .before .before .passes .ensures) ∙ not-false _ (c .before .before .before .before .before .before .before .before .before .before .before .before .before .before .if1 .left)); size = size .0; deadline = deadline .1; waiting = place .0 } in
+    record { passes = (sym (c .before .before .before .before .before .before .before .before .before .before .before .before .before .before .before .passes .ensures) ∙ not-false _ (c .before .before .before .before .before .before .before .before .before .before .before .before .before .before .if1 .left)); size = size .0; deadline = deadline .1; waiting = place .0 } in
     let w = c .before .before .before .walk-with in
     let p : PlanWith (a .self) (newJob (a .self) (a .show) (a .size) (a .deadline)) (w .result .ok) (w .result .jobs) =
-        subst (λ (j : Job). PlanWith (a .self) j (w .result .ok) (w .result .jobs)) (c .before .before .before .before .new-job .ensures) (w .ensures) in
+    subst (λ (j : Job). PlanWith (a .self) j (w .result .ok) (w .result .jobs)) (c .before .before .before .before .new-job .ensures) (w .ensures) in
     let ok : w .result .ok ≡ true = not-false _ (c .before .if6 .left) in
     accepting (a .self) (newJob (a .self) (a .show) (a .size) (a .deadline)) offered (farm-free-length (a .self) (c .before .before .before .before .before .before .before .before .before .before .before .before .before .before .before .before .good .0)) (jobs-length (a .self) (c .before .before .before .before .before .before .before .before .before .before .before .before .before .before .before .before .good .0)) (w .result .ok) (w .result .jobs) p ok (place .1)
 
@@ -130,10 +130,10 @@ returns-7 c =
     let deadline = deadline-is (a .self .clock) (a .deadline) (sym (c .before .before .before .before .before .before .before .before .before .before .deadline-within .ensures) ∙ not-false _ (c .before .before .before .before .before .before .before .before .before .if4 .left)) in
     let place = place-is (a .self .waiting) (a .self .used) (sym (c .before .before .before .before .before .before .before .before .place-left .ensures) ∙ not-false _ (c .before .before .before .before .before .before .before .if5 .left)) in
     let offered : Offered (a .self) (newJob (a .self) (a .show) (a .size) (a .deadline)) =
-        record { passes = (sym (c .before .before .before .before .before .before .before .before .before .before .before .before .before .before .before .before .passes .ensures) ∙ not-false _ (c .before .before .before .before .before .before .before .before .before .before .before .before .before .before .before .if1 .left)); size = size .0; deadline = deadline .1; waiting = place .0 } in
+    record { passes = (sym (c .before .before .before .before .before .before .before .before .before .before .before .before .before .before .before .before .passes .ensures) ∙ not-false _ (c .before .before .before .before .before .before .before .before .before .before .before .before .before .before .before .if1 .left)); size = size .0; deadline = deadline .1; waiting = place .0 } in
     let w = c .before .before .before .before .walk-with in
     let p : PlanWith (a .self) (newJob (a .self) (a .show) (a .size) (a .deadline)) (w .result .ok) (w .result .jobs) =
-        subst (λ (j : Job). PlanWith (a .self) j (w .result .ok) (w .result .jobs)) (c .before .before .before .before .before .new-job .ensures) (w .ensures) in
+    subst (λ (j : Job). PlanWith (a .self) j (w .result .ok) (w .result .jobs)) (c .before .before .before .before .before .new-job .ensures) (w .ensures) in
     let ok : w .result .ok ≡ true = not-false _ (c .before .before .if6 .left) in
     let jobs = plan-jobs (a .self) (newJob (a .self) (a .show) (a .size) (a .deadline)) offered (farm-free-length (a .self) (c .before .before .before .before .before .before .before .before .before .before .before .before .before .before .before .before .before .good .0)) (jobs-length (a .self) (c .before .before .before .before .before .before .before .before .before .before .before .before .before .before .before .before .before .good .0)) (w .result .ok) (w .result .jobs) p ok in
     offer-booked (a .self) (a .show) (a .size) (a .deadline) (c .accepted .result)

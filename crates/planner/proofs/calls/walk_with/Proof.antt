@@ -35,10 +35,10 @@ returns c =
     let a = c .before .before .before .before .before .args in
     let p = c .before .before .before .before .before .pre in
     let o = ordered-is (a .farm) (a .job) (c .before .before .before .by-deadline .result) (omega (arith, p .waiting, jobs-length (a .farm) (c .before .before .before .before .before .good .0))) (c .before .before .before .by-deadline .ensures) in
-    record
-      { books = c .walked .ensures .books ∙ ap (booksAll (termsOf (a .farm)) (busyOf (a .farm))) (o .0)
-      ; plans = λ e. c .walked .ensures .plans e ∙ rw (o .0, o .1)
-      }
+    record {
+      books = c .walked .ensures .books ∙ ap (booksAll (termsOf (a .farm)) (busyOf (a .farm))) (o .0);
+      plans = λ e. c .walked .ensures .plans e ∙ rw (o .0, o .1);
+    }
 
 pub walk-with-spec : {M : Type 1} → statement M
 walk-with-spec =

@@ -1,0 +1,38 @@
+-- `passing::in_turn` meets its contract: the sorted keys are those of the waiting jobs by start.
+use mathlib.Core.Path.{_≡_, ap, _∙_}
+use mathlib.Core.List.{List}
+use native.Mathlib.Omega.{arith}
+use lib.ListN.{length}
+use Rattle.planner.specs.declared.Job.{Job}
+use Rattle.planner.specs.Model.{spansOfAll}
+use Rattle.planner.specs.Passes.{fitAll}
+use Rattle.planner.specs.Tests.{order-inside, order-whole}
+use borrow.Author.Needs.{needs}
+use Rattle.planner.proofs.passing.in_turn.Statement.{statement}
+use Rattle.planner.proofs.passing.in_turn.Tie as tie
+
+start-keys-requires : tie.Need-start-keys-requires
+start-keys-requires c κs = search needs
+
+sorted-requires : tie.Need-sorted-requires
+sorted-requires c κs = search needs
+
+jobs-fit-requires : tie.Need-jobs-fit-requires
+jobs-fit-requires c κs =
+    let z = c .before .before in
+    let a = z .args in
+    let fits : length (a .jobs) ≡ 128 = omega arith in
+    let keys = c .before .start-keys in
+    (z .pre .0, z .pre .1, order-inside (a .jobs) (keys .result) (c .sorted .result) (a .count) (z .pre .0) fits (keys .ensures .0) (keys .ensures .1) (c .sorted .ensures))
+
+returns : tie.Need-returns
+returns c =
+    let z = c .before .before .before in
+    let a = z .args in
+    let fits : length (a .jobs) ≡ 128 = omega arith in
+    let keys = c .before .before .start-keys in
+    let whole = order-whole (a .jobs) (keys .result) (c .before .sorted .result) (a .count) (z .pre .0) fits (keys .ensures .0) (keys .ensures .1) (c .before .sorted .ensures) in
+    c .jobs-fit .ensures ∙ ap (λ (js : List Job). fitAll (a .busy) (spansOfAll (a .costs) js)) whole
+
+pub in-turn-spec : {M : Type 1} → statement M
+in-turn-spec = tie.close (tie.spec start-keys-requires sorted-requires jobs-fit-requires returns)
