@@ -4,7 +4,7 @@
 -- the earliest finish on them.
 --   one booking: `book-is` and `only` (crate booking, specs/Booked.antt and Only.antt); what is best of all choices: `Best` (specs/Best.antt)
 --   the walk: `walk-is`; what is walked, and in which order: `walked-jobs`
---   an offer: `offer-is`
+--   an offer: `offer-is` and `offer-stopped` (Offer.antt)
 use mathlib.Core.Path.{_≡_, refl, ap, sym, subst, _∙_}
 use mathlib.Core.List.{List, [], _∷_, _++_, List·Permᴰ}
 use mathlib.Core.Bool.{Bool, true, false, cond, _&&_, false≢true, true≢false}

@@ -3,11 +3,11 @@
 use mathlib.Core.Path.{_≡_, refl, ap, sym, subst, _∙_}
 use mathlib.Core.List.{List, [], _∷_, _++_}
 use mathlib.Core.Bool.{Bool, true, false, cond, _&&_, false≢true}
-use mathlib.Core.Logic.{_⊎_, inl, inr}
+use mathlib.Core.Logic.{_⊎_, inl, inr, ⊎-elim}
 use Prim.Native.Nat.{ℕ, zero, suc, _+_, _-_, _≤_, _<_}
 use native.Mathlib.Omega.{arith}
 use native.Mathlib.Numerals.{add-one}
-use borrow.Author.Tests.{ltb-true, leb-true}
+use borrow.Author.Tests.{ltb-true, leb-true, ne-eqb}
 use lib.Dec.{leb, ltb, eqb}
 use lib.ListN.{length, getD, take, drop, set, length-append}
 use lib.Seq.{take-suc-set, drop-set-lt, drop-cons, take-at, drop-at, length-take-le}
@@ -26,10 +26,11 @@ use Rattle.planner.specs.declared.Answer.{Answer}
 use Rattle.planner.specs.declared.Answer.the-variants as answer
 use Rattle.planner.specs.Model.{greatest, between, emptyJob, noJob, linesOf, waitingOf, termsOf, busyOf, byDeadline, requestOf, step, busyAfter, plan, booksAll}
 use Rattle.planner.specs.Passes.{passesOf}
+use Rattle.planner.specs.Rows.{between-is}
 use Rattle.planner.specs.Order.{by-deadline-perm}
 use Rattle.planner.specs.Asked.{and-left, and-right, passes-figures, passes-jobs}
 use Rattle.planner.specs.Walk.{Sends, Ready, best-sends}
-use Rattle.planner.specs.Demand2.{BestAll, walk-best}
+use Rattle.planner.specs.Demand2.{BestAll, Fails, walk-is, walk-best}
 use Rattle.planner.specs.Chain.{afters-length}
 use Rattle.planner.specs.Calls.{Said, said, granted, refused, numberOf, Replies, newJob, queueOf, planned, accepts, nextFarm, withPlan, ofNumber, yesOf, offerAsked, offerSaid, offerFarm}
 
@@ -203,3 +204,37 @@ module _ (f : Farm) (j : Job) (o : Offered f j) (sized : length (f .free) ≡ 64
         used = u;
         sends = rw plan-jobs (plan-sends (termsOf f) (busyOf f) (byDeadline (waitingOf f ++ j ∷ [])) (g .nodes .1) sized (all-map (λ x a. a .1) (byDeadline (waitingOf f ++ j ∷ [])) (r .jobs)) best);
       }
+
+-- ---- Demand 2 on an offer
+
+-- An offer that does not pass questions 11, 4, 5, 6 and 7 is refused with the number of the first answered no, and the farm is as it was.
+pub offer-stopped : (f : Farm) (s z d n : ℕ) → offerAsked f s z d ≡ suc n → (offerSaid f s z d ≡ refused (suc n)) × (offerFarm f s z d ≡ f)
+unfolding offerSaid offerFarm
+offer-stopped f s z d n e = (rw (e, ne-eqb (suc n) 0 (λ h. omega arith)), rw (e, ne-eqb (suc n) 0 (λ h. omega arith)))
+
+-- what an offer past those questions has the walk start from
+asked-offered : (f : Farm) (s z d : ℕ) → offerAsked f s z d ≡ 0 → Offered f (newJob f s z d)
+unfolding offerAsked
+asked-offered f s z d e =
+    go (passesOf f) (between 1 s (f .shows)) (between 1 z 1_000_000) (ltb (f .clock) d && leb d greatest) (ltb (f .waiting) 128 && ltb (f .used) greatest) refl refl refl refl refl e
+  where
+    go : (p a b c q : Bool) → passesOf f ≡ p → between 1 s (f .shows) ≡ a → between 1 z 1_000_000 ≡ b → (ltb (f .clock) d && leb d greatest) ≡ c
+        → (ltb (f .waiting) 128 && ltb (f .used) greatest) ≡ q → _≡_ {A = ℕ} (cond p (cond a (cond b (cond c (cond q 0 7) 6) 5) 4) 11) 0 → Offered f (newJob f s z d)
+    go true true true true true hp ha hb hc hq e =
+        record { passes = hp; size = between-is 1 z 1_000_000 hb .0; deadline = deadline-is (f .clock) d hc .1; waiting = place-is (f .waiting) (f .used) hq .0 }
+    go true true true true false hp ha hb hc hq e = absurd (omega arith)
+    go true true true false q hp ha hb hc hq e = absurd (omega arith)
+    go true true false c q hp ha hb hc hq e = absurd (omega arith)
+    go true false b c q hp ha hb hc hq e = absurd (omega arith)
+    go false a b c q hp ha hb hc hq e = absurd (omega arith)
+
+-- **An offer.** Past those questions it is accepted exactly when the walk books every waiting job and the new one, each with the best of all choices
+-- behind those before it, and then the next farm holds exactly that plan; otherwise some job has no choice at all behind the best of those before it,
+-- and the offer is refused with 8, the farm as it was.
+pub offer-is : (f : Farm) (s z d : ℕ) → f .nodes ≤ length (f .free) → offerAsked f s z d ≡ 0
+    → ((accepts f s z d ≡ true) × BestAll (termsOf f) (busyOf f) (queueOf f s z d) × (offerSaid f s z d .number ≡ 0) × (offerFarm f s z d ≡ withPlan f (planned f s z d)))
+    ⊎ ((accepts f s z d ≡ false) × Fails (termsOf f) (busyOf f) (queueOf f s z d) × (offerSaid f s z d ≡ refused 8) × (offerFarm f s z d ≡ f))
+unfolding offerSaid offerFarm
+offer-is f s z d h e =
+    ⊎-elim (λ x. inl (x .0, x .1, rw (e, x .0), rw (e, x .0))) (λ x. inr (x .0, x .1, rw (e, x .0), rw (e, x .0)))
+    (walk-is (termsOf f) (busyOf f) (queueOf f s z d) (walk-ready f (newJob f s z d) (asked-offered f s z d e)) h)
