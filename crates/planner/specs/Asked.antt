@@ -5,7 +5,7 @@ use mathlib.Core.Bool.{Bool, true, false, cond, _&&_, false≢true}
 use Prim.Native.Nat.{ℕ, _-_, _≤_}
 use lib.ListN.{getD}
 use Rattle.lists.specs.Laws.{All}
-use Rattle.planner.specs.declared.Job.{Job}
+use Rattle.walk.specs.declared.Job.{Job}
 use Rattle.planner.specs.declared.Farm.{Farm}
 use Rattle.planner.specs.Model.{between, waitingOf}
 use Rattle.planner.specs.Passes.{figuresWithin, jobsPass, JobWithin, passesOf}

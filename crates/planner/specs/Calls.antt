@@ -9,7 +9,7 @@ use Rattle.shares.specs.declared.Costs.{Costs}
 use Rattle.shares.specs.Model.{finish}
 use Rattle.booking.specs.Model.{bookingOf}
 use Rattle.booking.specs.Best.{units}
-use Rattle.planner.specs.declared.Job.{Job}
+use Rattle.walk.specs.declared.Job.{Job}
 use Rattle.planner.specs.declared.Farm.{Farm}
 use Rattle.planner.specs.declared.Reply.{Reply}
 use Rattle.planner.specs.declared.Question.{Question}

@@ -16,9 +16,9 @@ use Rattle.shares.specs.declared.Costs.{Costs}
 use Rattle.shares.specs.Model.{finish, answers}
 use Rattle.shares.specs.Answers.{answered}
 use Rattle.booking.specs.Model.{bookingOf}
-use Rattle.planner.specs.declared.Job.{Job}
-use Rattle.planner.specs.declared.Terms.{Terms}
-use Rattle.planner.specs.declared.Busy.{Busy}
+use Rattle.walk.specs.declared.Job.{Job}
+use Rattle.walk.specs.declared.Terms.{Terms}
+use Rattle.walk.specs.declared.Busy.{Busy}
 use Rattle.planner.specs.declared.Farm.{Farm}
 use Rattle.planner.specs.declared.Reply.{Reply}
 use Rattle.planner.specs.declared.Question.{Question}
@@ -27,11 +27,11 @@ use Rattle.planner.specs.declared.Answer.the-variants as answer
 use Rattle.planner.specs.Model.{greatest, between, emptyJob, noJob, linesOf, waitingOf, termsOf, busyOf, byDeadline, requestOf, step, busyAfter, plan, booksAll}
 use Rattle.planner.specs.Passes.{passesOf}
 use Rattle.planner.specs.Rows.{between-is}
-use Rattle.planner.specs.Order.{by-deadline-perm}
+use Rattle.walk.specs.Order.{by-deadline-perm}
 use Rattle.planner.specs.Asked.{and-left, and-right, passes-figures, passes-jobs}
-use Rattle.planner.specs.Walk.{Sends, Ready, best-sends}
-use Rattle.planner.specs.Demand2.{BestAll, Fails, walk-is, walk-best}
-use Rattle.planner.specs.Chain.{afters-length}
+use Rattle.walk.specs.Walk.{Sends, Ready, best-sends}
+use Rattle.walk.specs.Booked.{BestAll, Fails, walk-is, walk-best}
+use Rattle.walk.specs.Chain.{afters-length}
 use Rattle.planner.specs.Calls.{Said, said, granted, refused, numberOf, Replies, newJob, queueOf, planned, accepts, nextFarm, withPlan, ofNumber, yesOf, offerAsked, offerSaid, offerFarm}
 
 module _ (f : Farm) (s z d : ℕ) where

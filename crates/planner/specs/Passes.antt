@@ -11,10 +11,10 @@ use Rattle.shares.specs.declared.Costs.{Costs}
 use Rattle.shares.specs.Model.{finish, sum}
 use Rattle.shares.specs.Lists.{Positive}
 use Rattle.booking.specs.Best.{freeAt, chosen, units}
-use Rattle.planner.specs.declared.Job.{Job}
-use Rattle.planner.specs.declared.Busy.{Busy}
+use Rattle.walk.specs.declared.Job.{Job}
+use Rattle.walk.specs.declared.Busy.{Busy}
 use Rattle.planner.specs.declared.Farm.{Farm}
-use Rattle.planner.specs.Model.{greatest, between, allAtMost, allAtLeast, costsWithin, Span, spansOf, spansOfAll, after, waitingOf, busyOf, byStart}
+use Rattle.planner.specs.Model.{greatest, between, allAtMost, allAtLeast, costsWithin, spansOfAll, waitingOf, busyOf, byStart, fitAll, Between, Apart}
 
 -- ---- The test
 
@@ -65,12 +65,6 @@ unfoldable pub allDiffer : List ℕ → Bool
 allDiffer [] = true
 allDiffer (x ∷ xs) = noneOf x xs && allDiffer xs
 
--- the spans one after the other, each behind what those before it have left: its send not before the link's free time, nor its span before
--- its node's
-unfoldable pub fitAll : Busy → List Span → Bool
-fitAll b [] = true
-fitAll b (x ∷ xs) = leb (b .link) (x .chunk .start) && leb (freeAt (b .free) (x .chunk .node)) (x .from) && fitAll (after b (x .chunk)) xs
-
 -- the answer to question 11
 unfoldable pub passesOf : Farm → Bool
 passesOf f =
@@ -81,18 +75,6 @@ passesOf f =
     && fitAll (busyOf f) (spansOfAll (f .costs) (byStart (waitingOf f)))
 
 -- ---- What the paper asks
-
--- a span of ticks includes its first and excludes its last
-abbrev pub Includes : ℕ → ℕ → ℕ → Type 0
-Includes a b t = (a ≤ t) × (t < b)
-
--- two chunks share no tick of a node or of the link: a node's span runs from the job's start to the chunk's finish, the link's over the send
-pub record Apart (x y : Span) : Type 0 where
-  pub node : x .chunk .node ≡ y .chunk .node → (t : ℕ) → Includes (x .from) (x .chunk .finish) t → Includes (y .from) (y .chunk .finish) t → ⊥
-  pub send : (t : ℕ) → Includes (x .chunk .start) (x .chunk .sent) t → Includes (y .chunk .start) (y .chunk .sent) t → ⊥
-
-abbrev pub Between : ℕ → ℕ → ℕ → Type 0
-Between a x b = (a ≤ x) × (x ≤ b)
 
 pub record CostsWithin (c : Costs) : Type 0 where
   pub send : Between 1 (c .send) 10_000

@@ -15,14 +15,14 @@ use Rattle.shares.specs.declared.Costs.{Costs}
 use Rattle.shares.specs.Model.{sendEnd, finish, sum}
 use Rattle.shares.specs.Lists.{Positive}
 use Rattle.booking.specs.Best.{freeAt, chosen, units}
-use Rattle.planner.specs.declared.Job.{Job}
-use Rattle.planner.specs.declared.Busy.{Busy}
+use Rattle.walk.specs.declared.Job.{Job}
+use Rattle.walk.specs.declared.Busy.{Busy}
 use Rattle.planner.specs.declared.Farm.{Farm}
-use Rattle.planner.specs.declared.Chunk.{Chunk}
-use Rattle.planner.specs.Model.{greatest, between, allAtMost, allAtLeast, costsWithin, Span, chunksFrom, linesOf, spansOf, spansOfAll, JobSized, Sized, waitingOf, busyOf, byStart}
-use Rattle.planner.specs.Passes.{figuresWithin, jobWithin, jobKept, jobsPass, noneOf, allDiffer, fitAll, passesOf, Includes, Apart, Between, CostsWithin, JobWithin, JobSound, Passes}
-use Rattle.planner.specs.Chain.{Fits, fit-all-chain, Proper, Follows, chain-follows, follows-apart, job-proper}
-use Rattle.planner.specs.Order.{by-start-perm, by-start-grows}
+use Rattle.walk.specs.declared.Chunk.{Chunk}
+use Rattle.planner.specs.Model.{greatest, between, allAtMost, allAtLeast, costsWithin, Span, chunksFrom, linesOf, spansOf, spansOfAll, JobSized, Sized, waitingOf, busyOf, byStart, fitAll, Includes, Apart, Between}
+use Rattle.planner.specs.Passes.{figuresWithin, jobWithin, jobKept, jobsPass, noneOf, allDiffer, passesOf, CostsWithin, JobWithin, JobSound, Passes}
+use Rattle.walk.specs.Chain.{Fits, fit-all-chain, Proper, Follows, chain-follows, follows-apart, job-proper}
+use Rattle.walk.specs.Order.{by-start-perm, by-start-grows}
 
 -- ---- What a test says
 
@@ -401,7 +401,7 @@ job-paired f j s w =
     let b : length (units (j .booking)) ≡ j .booking .count = length-take-le (j .booking .count) (j .booking .shares) (omega (arith, s .shares, w .count .1)) in
     (a ∙ sym b, omega (arith, w .count .0))
 
-fits-behind : (f : Farm) (c : Costs) (j : Job) → Paired j → All (Fits (busyOf f)) (spansOf c j) → Behind f j
+pub fits-behind : (f : Farm) (c : Costs) (j : Job) → Paired j → All (Fits (busyOf f)) (spansOf c j) → Behind f j
 fits-behind f c j p h =
     let s = j .booking .start in
     (spans-first c (j .number) (j .show) s (busyOf f) s (chosen (j .booking)) (units (j .booking)) (p .0) (p .1) h, spans-free c (j .number) (j .show) s (busyOf f) s (chosen (j .booking)) (units (j .booking)) (p .0) h)

@@ -18,15 +18,15 @@ use Rattle.keys.specs.Model.{noKey, sortKeys, sortedFront}
 use Rattle.keys.specs.Sorted.{sort-all, front-sorted}
 use Rattle.booking.specs.declared.Booking.{Booking}
 use Rattle.booking.specs.Best.{freeAt, chosen, units}
-use Rattle.planner.specs.declared.Job.{Job}
-use Rattle.planner.specs.declared.Busy.{Busy}
+use Rattle.walk.specs.declared.Job.{Job}
+use Rattle.walk.specs.declared.Busy.{Busy}
 use Rattle.planner.specs.declared.Farm.{Farm}
-use Rattle.planner.specs.declared.Chunk.{Chunk}
+use Rattle.walk.specs.declared.Chunk.{Chunk}
 use Rattle.planner.specs.declared.passing.Figures.{Figures}
 use Rattle.planner.specs.declared.passing.Fit.{Fit}
-use Rattle.planner.specs.Model.{greatest, between, allAtMost, allAtLeast, costsWithin, noJob, chunksFrom, Span, spansOf, spansOfAll, waitingOf, busyOf, keysBy, startOf, byStart, inOrder}
-use Rattle.planner.specs.Rows.{order-is, order-within}
-use Rattle.planner.specs.Passes.{figuresWithin, jobWithin, jobKept, jobsPass, noneOf, allDiffer, fitAll, passesOf, CostsWithin}
+use Rattle.planner.specs.Model.{greatest, between, allAtMost, allAtLeast, costsWithin, noJob, chunksFrom, Span, spansOf, spansOfAll, waitingOf, busyOf, keysBy, startOf, byStart, inOrder, fitAll}
+use Rattle.walk.specs.Rows.{order-is, order-within}
+use Rattle.planner.specs.Passes.{figuresWithin, jobWithin, jobKept, jobsPass, noneOf, allDiffer, passesOf, CostsWithin}
 
 -- ---- The test in the code's parts
 

@@ -3,32 +3,9 @@
 mod calls;
 mod passing;
 mod table;
-mod walk;
 
-use booking::Booking;
 use shares::Costs;
-
-// An accepted job that waits: what the offer fixed, and where the latest plan has it.
-pub struct Job {
-    pub number: u64,
-    pub show: u64,
-    pub size: u32,
-    pub deadline: u64,
-    pub booking: Booking,
-}
-
-// What a walk knows of the farm besides its free times.
-pub struct Terms {
-    pub costs: Costs,
-    pub nodes: usize,
-    pub clock: u64,
-}
-
-// When the link and each node come free.
-pub struct Busy {
-    pub link: u64,
-    pub free: [u64; 64],
-}
+use walk::Job;
 
 // The farm. The first `shows` allowances and held ticks, the first `nodes` free times and the first `waiting` jobs
 // are its figures; the cells past them are not looked at.
@@ -45,17 +22,6 @@ pub struct Farm {
     pub used: u64,
     pub waiting: usize,
     pub jobs: [Job; 128],
-}
-
-// A line of the timetable: what a node is sent, and when. `start` and `sent` are the start and the end of its send.
-pub struct Chunk {
-    pub job: u64,
-    pub show: u64,
-    pub node: u64,
-    pub units: u64,
-    pub start: u64,
-    pub sent: u64,
-    pub finish: u64,
 }
 
 // The question that was answered no.

@@ -8,14 +8,14 @@ ghost use lib.ListN.{length, take};
 ghost use Rattle.lists.specs.Laws.{All};
 ghost use Rattle.shares.specs.Model.{sendEnd};
 ghost use Rattle.booking.specs.Best.{units};
-ghost use Rattle.planner.specs.Model.{keysBy, startOf, byStart, between, allAtMost, costsWithin, spansOfAll, inOrder};
-ghost use Rattle.planner.specs.Passes.{noneOf, allDiffer, fitAll, passesOf, CostsWithin};
+ghost use Rattle.planner.specs.Model.{keysBy, startOf, byStart, between, allAtMost, costsWithin, spansOfAll, inOrder, fitAll};
+ghost use Rattle.planner.specs.Passes.{noneOf, allDiffer, passesOf, CostsWithin};
 ghost use Rattle.planner.specs.Tests.{countsWithin, timesWithin, nodesKnown, numbersOf, sharesKept, headWithin, jobPasses, allPass, Usable, Calm, Inside, Swept};
-use crate::Busy;
 use crate::Farm;
-use crate::Job;
 use keys::Key;
 use shares::Costs;
+use walk::Busy;
+use walk::Job;
 
 // What each waiting job is held against.
 pub struct Figures {

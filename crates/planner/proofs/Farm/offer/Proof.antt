@@ -5,7 +5,7 @@ use mathlib.Core.Bool.{true, false}
 use Prim.Native.Nat.{_+_}
 use native.Mathlib.Omega.{arith}
 use borrow.Author.Tests.{not-true, not-false}
-use Rattle.planner.specs.declared.Job.{Job}
+use Rattle.walk.specs.declared.Job.{Job}
 use Rattle.planner.specs.Model.{waitingOf, termsOf, busyOf, byDeadline, booksAll}
 use Rattle.planner.specs.Calls.{newJob, nextFarm, ofNumber, yesOf}
 use Rattle.planner.specs.Rows.{between-is}

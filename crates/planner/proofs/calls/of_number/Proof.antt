@@ -5,7 +5,7 @@ use native.Mathlib.Omega.{arith}
 use lib.ListN.{length, getD, take, drop, drop-of-length-le}
 use lib.Seq.{getD-take, length-take-le}
 use borrow.Author.Tests.{eq-eqb, ne-eqb}
-use Rattle.planner.specs.declared.Job.{Job}
+use Rattle.walk.specs.declared.Job.{Job}
 use Rattle.planner.specs.Model.{noJob}
 use Rattle.planner.specs.Calls.{ofNumber}
 use Rattle.planner.specs.Offer.{number-next}

@@ -3,9 +3,8 @@ use mathlib.Core.Path.{_≡_, ap, _∙_}
 use mathlib.Core.List.{List}
 use native.Mathlib.Omega.{arith}
 use lib.ListN.{length}
-use Rattle.planner.specs.declared.Job.{Job}
-use Rattle.planner.specs.Model.{spansOfAll}
-use Rattle.planner.specs.Passes.{fitAll}
+use Rattle.walk.specs.declared.Job.{Job}
+use Rattle.planner.specs.Model.{spansOfAll, fitAll}
 use Rattle.planner.specs.Tests.{order-inside, order-whole}
 use borrow.Author.Needs.{needs}
 use Rattle.planner.proofs.passing.in_turn.Statement.{statement}

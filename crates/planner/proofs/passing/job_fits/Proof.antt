@@ -2,8 +2,8 @@
 -- bounded so that no sum wraps. The measure is the chunks that are left.
 use Rattle.planner.specs.Tests.{Unswept, unswept-start, unswept-step, unswept-link, unswept-node, unswept-none}
 use mathlib.Core.Bool.{false}
-use Rattle.planner.specs.declared.Busy.{Busy}
-use Rattle.planner.proofs.Sizes.{nodes-length, shares-length, free-length}
+use Rattle.walk.specs.declared.Busy.{Busy}
+use Rattle.walk.proofs.Sizes.{nodes-length, shares-length, free-length}
 use mathlib.Core.Path.{_≡_, refl, subst}
 use Prim.Native.Nat.{ℕ, _+_, _*_, _-_, _≤_, _<_}
 use native.Mathlib.Omega.{arith}

@@ -6,8 +6,7 @@ use native.Mathlib.Omega.{arith}
 use lib.ListN.{length, take}
 use lib.Seq.{slice}
 use borrow.Author.Tests.{not-true, not-false}
-use Rattle.planner.specs.Model.{spansOfAll, inOrder}
-use Rattle.planner.specs.Passes.{fitAll}
+use Rattle.planner.specs.Model.{spansOfAll, inOrder, fitAll}
 use Rattle.planner.specs.Tests.{key-inside, key-calm, turn-more, turn-stop, turn-none}
 use borrow.Author.Needs.{needs}
 use Rattle.planner.proofs.passing.jobs_fit.Statement.{statement}

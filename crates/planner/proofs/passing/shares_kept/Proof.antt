@@ -9,7 +9,7 @@ use lib.ListN.{length}
 use lib.Seq.{slice}
 use Rattle.booking.specs.Best.{units}
 use Rattle.planner.specs.Tests.{sharesKept, shares-step, shares-small, shares-over, shares-none}
-use Rattle.planner.proofs.Sizes.{shares-length}
+use Rattle.walk.proofs.Sizes.{shares-length}
 use borrow.Author.Needs.{needs}
 use Rattle.planner.proofs.passing.shares_kept.Statement.{statement}
 use Rattle.planner.proofs.passing.shares_kept.Tie as tie

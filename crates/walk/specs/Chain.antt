@@ -16,11 +16,10 @@ use Rattle.shares.specs.declared.Costs.{Costs}
 use Rattle.shares.specs.Model.{sendEnd, finish}
 use Rattle.shares.specs.Lists.{Positive}
 use Rattle.booking.specs.Best.{freeAt, chosen, units}
-use Rattle.planner.specs.declared.Job.{Job}
-use Rattle.planner.specs.declared.Busy.{Busy}
-use Rattle.planner.specs.declared.Chunk.{Chunk}
-use Rattle.planner.specs.Model.{Span, chunksFrom, linesOf, spansOf, after, afters}
-use Rattle.planner.specs.Passes.{fitAll, Apart, Between}
+use Rattle.walk.specs.declared.Job.{Job}
+use Rattle.walk.specs.declared.Busy.{Busy}
+use Rattle.walk.specs.declared.Chunk.{Chunk}
+use Rattle.walk.specs.Model.{Span, chunksFrom, linesOf, spansOf, Between, Apart, after, afters, fitAll}
 
 -- ---- Spans in a row
 

@@ -20,10 +20,10 @@ use Rattle.booking.specs.Best.{chosen, units, Best}
 use Rattle.booking.specs.Rank.{ranked-is}
 use Rattle.booking.specs.Choose.{no-more}
 use Rattle.booking.specs.Booked.{book-is}
-use Rattle.planner.specs.declared.Job.{Job}
-use Rattle.planner.specs.declared.Terms.{Terms}
-use Rattle.planner.specs.declared.Busy.{Busy}
-use Rattle.planner.specs.Model.{greatest, noJob, chunksFrom, afters, requestOf, step, busyAfter, plan, booksAll}
+use Rattle.walk.specs.declared.Job.{Job}
+use Rattle.walk.specs.declared.Terms.{Terms}
+use Rattle.walk.specs.declared.Busy.{Busy}
+use Rattle.walk.specs.Model.{greatest, noJob, chunksFrom, afters, requestOf, step, busyAfter, plan, booksAll}
 
 -- keys whose places are in the array
 abbrev pub PlacesWithin : List Key → Type 0

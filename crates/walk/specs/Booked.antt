@@ -1,10 +1,6 @@
--- Demand 2: an offer whose farm, show, size, deadline and place in the queue pass document 01's questions is accepted exactly when the deadline
--- walk books every waiting job and the new one; any other is refused. A job fails there exactly when no permitted start, no nodes free at that
--- start and no division into whole units end by its deadline. Each booking has the earliest start, the fewest nodes that any start allows, and
--- the earliest finish on them.
---   one booking: `book-is` and `only` (crate booking, specs/Booked.antt and Only.antt); what is best of all choices: `Best` (specs/Best.antt)
---   the walk: `walk-is`; what is walked, and in which order: `walked-jobs`
---   an offer: `offer-is` and `offer-stopped` (Offer.antt)
+-- Demand 2 on the walk: it books every job exactly when each has the best of all choices behind those before it; a job fails there exactly when it
+-- has no choice at all behind the best of those before it. One booking is shown best, and the only one with these properties, in the crate booking
+-- (`book-is`, `only`).
 use mathlib.Core.Path.{_≡_, refl, ap, sym, subst, _∙_}
 use mathlib.Core.List.{List, [], _∷_, _++_, List·Permᴰ}
 use mathlib.Core.Bool.{Bool, true, false, cond, _&&_, false≢true, true≢false}
@@ -20,14 +16,13 @@ use Rattle.booking.specs.declared.Booking.{Booking}
 use Rattle.booking.specs.Model.{bookingOf, bookOf}
 use Rattle.booking.specs.Best.{chosen, units, Choice, Best}
 use Rattle.booking.specs.Booked.{some-share, book-is}
-use Rattle.planner.specs.declared.Job.{Job}
-use Rattle.planner.specs.declared.Terms.{Terms}
-use Rattle.planner.specs.declared.Busy.{Busy}
-use Rattle.planner.specs.declared.Farm.{Farm}
-use Rattle.planner.specs.Model.{greatest, linesOf, waitingOf, termsOf, busyOf, byDeadline, deadlineOf, requestOf, step, busyAfter, plan, booksAll}
-use Rattle.planner.specs.Chain.{afters-length}
-use Rattle.planner.specs.Order.{Precedes, by-deadline-perm, by-deadline-sorted}
-use Rattle.planner.specs.Walk.{Ready}
+use Rattle.walk.specs.declared.Job.{Job}
+use Rattle.walk.specs.declared.Terms.{Terms}
+use Rattle.walk.specs.declared.Busy.{Busy}
+use Rattle.walk.specs.Model.{greatest, linesOf, byDeadline, deadlineOf, requestOf, step, busyAfter, plan, booksAll}
+use Rattle.walk.specs.Chain.{afters-length}
+use Rattle.walk.specs.Order.{Precedes, by-deadline-perm, by-deadline-sorted}
+use Rattle.walk.specs.Walk.{Ready}
 
 -- each job has the best of all choices behind those before it
 abbrev pub BestAll : Terms → Busy → List Job → Type 0

@@ -1,0 +1,429 @@
+-- Question 11 is kept: a granted opening hands back a farm that passes it, and so does every offer to a farm that passes it.
+use mathlib.Core.Path.{_≡_, refl, ap, sym, subst, _∙_}
+use mathlib.Core.List.{List, [], _∷_, _++_, map, List·Permᴰ·trans, List·Permᴰ·append-comm, Permᴰ·map}
+use mathlib.Core.Bool.{Bool, true, false, cond, _&&_}
+use Prim.Native.Nat.{ℕ, zero, suc, _+_, _-_, _≤_, _<_}
+use native.Mathlib.Nat.{mul-le-mul-right}
+use native.Mathlib.Omega.{arith}
+use borrow.Author.Tests.{eqb-true}
+use lib.Dec.{leb, ltb, eqb}
+use lib.ListN.{length, take, drop, set, replicate, length-append, length-drop, length-replicate, take-append-drop}
+use lib.Seq.{take-at, length-take-le}
+use Rattle.lists.specs.Laws.{All, Pairs, Differ, all-map, all-both, all-image, all-take, all-append, all-join, perm-all, perm-pairs, perm-length}
+use Rattle.shares.specs.declared.Costs.{Costs}
+use Rattle.shares.specs.Model.{sendEnd, chunkFinish, finish}
+use Rattle.shares.specs.Lists.{Positive}
+use Rattle.shares.specs.Chunks.{finish-latest}
+use Rattle.booking.specs.declared.Booking.{Booking}
+use Rattle.booking.specs.Model.{bookingOf}
+use Rattle.booking.specs.Best.{freeAt, chosen, units, Best}
+use Rattle.booking.specs.Booked.{some-share}
+use Rattle.walk.specs.declared.Job.{Job}
+use Rattle.walk.specs.declared.Terms.{Terms}
+use Rattle.walk.specs.declared.Busy.{Busy}
+use Rattle.planner.specs.declared.Farm.{Farm}
+use Rattle.walk.specs.declared.Chunk.{Chunk}
+use Rattle.planner.specs.Model.{greatest, between, allAtMost, costsWithin, emptyJob, chunksFrom, linesOf, spansOf, spansOfAll, JobSized, Sized, after, afters, waitingOf, busyOf, termsOf, requestOf, step, busyAfter, plan, Apart, Between}
+use Rattle.planner.specs.Passes.{passesOf, JobWithin, JobSound, Passes}
+use Rattle.planner.specs.Calls.{unopened, openedWith, showsWithin, openFarm, newJob, queueOf, planned, accepts, withPlan, offerAsked, offerFarm}
+use Rattle.planner.specs.Rows.{between-is}
+use Rattle.walk.specs.Chain.{Fits, Chain, chain-job, Proper, free-other, afters-length, chain-follows, chain-apart, job-proper}
+use Rattle.walk.specs.Order.{by-deadline-perm}
+use Rattle.planner.specs.Sound.{Figures, Kept, says-costs, says-at-most, spans-each, spans-all, Behind, Paired, fits-behind, passes-iff}
+use Rattle.planner.specs.Asked.{and-left, and-right, passes-figures, passes-jobs}
+use Rattle.walk.specs.Walk.{best-sends}
+use Rattle.walk.specs.Booked.{BestAll, walk-best}
+use Rattle.planner.specs.Offer.{plan-length, walk-ready, deadline-is, place-is}
+
+-- ---- The plan in walk order
+
+-- chunks on different nodes, each free by f, sent back to back from t
+chunks-chain : (c : Costs) (j s f t : ℕ) (b : Busy) (ks xs : List ℕ) → b .link ≤ t → All (λ (k : ℕ). 1 ≤ k) ks → All (λ (k : ℕ). freeAt (b .free) k ≤ f) ks → Differ ks
+    → Chain b (map (λ (x : Chunk). record { from = f; chunk = x }) (chunksFrom c j s t ks xs))
+unfolding chunksFrom
+chunks-chain c j s f t b [] [] h p n d = tt
+chunks-chain c j s f t b [] (a ∷ xs) h p n d = tt
+chunks-chain c j s f t b (k ∷ ks) [] h p n d = tt
+chunks-chain c j s f t b (k ∷ ks) (a ∷ xs) h p n d =
+    let x : Chunk = record { job = j; show = s; node = k; units = a; start = t; sent = sendEnd c t a; finish = chunkFinish c t a } in
+    let apart : All (λ (m : ℕ). (1 ≤ m) × (k ≡ m → ⊥)) ks = all-both (λ m q e. (q, e)) ks (p .1) (d .0) in
+    let free : All (λ (m : ℕ). freeAt (set (b .free) (k - 1) (chunkFinish c t a)) m ≤ f) ks =
+    all-both (λ m q e. omega (arith, free-other (b .free) k m (chunkFinish c t a) (p .0) (q .0) (q .1))) ks apart (n .1) in
+    ((h, n .0), chunks-chain c j s f (sendEnd c t a) (after b x) ks xs (omega arith) (p .1) free (d .1))
+
+-- The spans of a booking that is best behind b are a chain from b.
+job-chain : (w : Terms) (b : Busy) (j : Job) → Best (requestOf w b j) (b .free) (step w b j .booking) → Chain b (spansOf (w .costs) (step w b j))
+job-chain w b j x =
+    let q = step w b j .booking in
+    let h = x .best .choice in
+    chunks-chain (w .costs) (j .number) (j .show) (q .start) (q .start) b (chosen q) (units q) (omega (arith, h .after)) (all-map (λ k a. a .0) (chosen q) (h .known)) (h .idle) (h .differ)
+
+-- The spans of a plan in walk order, each job best behind those before it, are a chain from the walk's free times.
+pub plan-chain : (w : Terms) (b : Busy) (js : List Job) → BestAll w b js → Chain b (spansOfAll (w .costs) (plan w b js))
+unfolding plan spansOfAll
+plan-chain w b [] a = tt
+plan-chain w b (j ∷ js) a =
+    chain-job b (w .costs) (step w b j) (spansOfAll (w .costs) (plan w (busyAfter w b j) js)) .1 (job-chain w b j (a .0), plan-chain w (busyAfter w b j) js (a .1))
+
+-- ---- Starts grow
+
+-- the link's free time does not fall from send to send
+sends-end : (c : Costs) (j s t : ℕ) (b : Busy) (ks xs : List ℕ) → t ≤ b .link → t ≤ afters b (chunksFrom c j s t ks xs) .link
+unfolding chunksFrom afters
+sends-end c j s t b [] [] h = h
+sends-end c j s t b [] (a ∷ xs) h = h
+sends-end c j s t b (k ∷ ks) [] h = h
+sends-end c j s t b (k ∷ ks) (a ∷ xs) h =
+    let x : Chunk = record { job = j; show = s; node = k; units = a; start = t; sent = sendEnd c t a; finish = chunkFinish c t a } in
+    omega (arith, sends-end c j s (sendEnd c t a) (after b x) ks xs (omega arith))
+
+-- a first send takes the link past its start
+sends-pass : (c : Costs) (j s t : ℕ) (b : Busy) (ks xs : List ℕ) → 1 ≤ c .send → length ks ≡ length xs → 1 ≤ length xs → Positive xs → t < afters b (chunksFrom c j s t ks xs) .link
+unfolding chunksFrom afters
+sends-pass c j s t b [] [] m e h p = absurd (omega arith)
+sends-pass c j s t b [] (a ∷ xs) m e h p = absurd (omega arith)
+sends-pass c j s t b (k ∷ ks) [] m e h p = absurd (omega arith)
+sends-pass c j s t b (k ∷ ks) (a ∷ xs) m e h p =
+    let x : Chunk = record { job = j; show = s; node = k; units = a; start = t; sent = sendEnd c t a; finish = chunkFinish c t a } in
+    omega (arith, mul-le-mul-right (c .send) (p .0), sends-end c j s (sendEnd c t a) (after b x) ks xs (omega arith))
+
+-- A booked job leaves the link free only after its start.
+link-grows : (w : Terms) (b : Busy) (j : Job) → 1 ≤ w .costs .send → 1 ≤ j .size → Best (requestOf w b j) (b .free) (step w b j .booking)
+    → (b .link ≤ step w b j .booking .start) × (step w b j .booking .start < busyAfter w b j .link)
+link-grows w b j m z x =
+    let q = step w b j .booking in
+    let h = x .best .choice in (
+      omega (arith, h .after),
+      sends-pass (w .costs) (j .number) (j .show) (q .start) b (chosen q) (units q) m (h .paired) (some-share (units q) (omega (arith, h .all))) (h .each),
+    )
+
+-- No job of a plan starts before the link's free time.
+pub plan-late : (w : Terms) (b : Busy) (js : List Job) → 1 ≤ w .costs .send → All (λ (j : Job). 1 ≤ j .size) js → BestAll w b js
+    → All (λ (j : Job). b .link ≤ j .booking .start) (plan w b js)
+unfolding plan
+plan-late w b [] m z a = tt
+plan-late w b (j ∷ js) m z a =
+    let g = link-grows w b j m (z .0) (a .0) in
+    (g .0, all-map (λ x h. omega arith) (plan w (busyAfter w b j) js) (plan-late w (busyAfter w b j) js m (z .1) (a .1)))
+
+-- Along a plan the starts strictly increase.
+pub starts-grow : (w : Terms) (b : Busy) (js : List Job) → 1 ≤ w .costs .send → All (λ (j : Job). 1 ≤ j .size) js → BestAll w b js
+    → Pairs (λ (i j : Job). i .booking .start < j .booking .start) (plan w b js)
+unfolding plan
+starts-grow w b [] m z a = tt
+starts-grow w b (j ∷ js) m z a =
+    let g = link-grows w b j m (z .0) (a .0) in
+    (all-map (λ x h. omega arith) (plan w (busyAfter w b j) js) (plan-late w (busyAfter w b j) js m (z .1) (a .1)), starts-grow w (busyAfter w b j) js m (z .1) (a .1))
+
+-- ---- An opening
+
+all-replicate : {A : Type 0} (P : A → Type 0) (n : ℕ) (x : A) → P x → All P (replicate n x)
+all-replicate P zero x h = tt
+all-replicate P (suc n) x h = (h, all-replicate P n x h)
+
+empty-sized : JobSized emptyJob
+unfolding bookingOf
+empty-sized = record { nodes = length-replicate {A = ℕ} 64 0; shares = length-replicate {A = ℕ} 64 0 }
+
+-- The unopened farm has its arrays.
+pub unopened-sized : Sized unopened
+unopened-sized = record {
+  allowances = length-replicate {A = ℕ} 32 0;
+  held = length-replicate {A = ℕ} 32 0;
+  free = length-replicate {A = ℕ} 64 0;
+  jobs = length-replicate 128 emptyJob;
+  each = all-replicate JobSized 128 emptyJob empty-sized;
+}
+
+opened-sized : (n : ℕ) (c : Costs) (al : List ℕ) → length al ≤ 32 → Sized (openedWith n c al)
+opened-sized n c al h = record {
+  allowances = omega (arith, length-append al (replicate (32 - length al) 0), length-replicate {A = ℕ} (32 - length al) 0);
+  held = length-replicate {A = ℕ} 32 0;
+  free = length-replicate {A = ℕ} 64 0;
+  jobs = length-replicate 128 emptyJob;
+  each = all-replicate JobSized 128 emptyJob empty-sized;
+}
+
+opened-passes : (n : ℕ) (c : Costs) (al : List ℕ) → between 1 n 64 ≡ true → costsWithin c ≡ true → showsWithin al ≡ true → Passes (openedWith n c al)
+unfolding spansOfAll
+opened-passes n c al a b d =
+    let s = between-is 1 (length al) 32 (and-left (between 1 (length al) 32) (allAtMost greatest al) d) in
+    let front : take (length al) (al ++ replicate (32 - length al) 0) ≡ al = take-at al (replicate (32 - length al) 0) (length al) refl in
+    record {
+      opened = refl;
+      within = record {
+        nodes = between-is 1 n 64 a;
+        costs = says-costs c .yields b;
+        shows = s;
+        allowances = rw front (says-at-most greatest al .yields (and-right (between 1 (length al) 32) (allAtMost greatest al) d));
+        held = all-take (λ (x : ℕ). x ≤ 64_000_000_000_000) (length al) (replicate 32 0) (all-replicate (λ (x : ℕ). x ≤ 64_000_000_000_000) 32 0 (omega arith));
+        clock = omega arith;
+        link = omega arith;
+        free = all-take (λ (x : ℕ). x ≤ greatest) n (replicate 64 0) (all-replicate (λ (x : ℕ). x ≤ greatest) 64 0 (omega arith));
+        used = omega arith;
+        waiting = omega arith;
+        jobs = tt;
+      };
+      sound = record { jobs = tt; apart = tt; differ = tt };
+    }
+
+opens-with : (n : ℕ) (c : Costs) (al : List ℕ) → (between 1 n 64 && costsWithin c && showsWithin al) ≡ true → openFarm n c al ≡ openedWith n c al
+unfolding openFarm
+opens-with n c al e = ap (λ (b : Bool). cond b (openedWith n c al) unopened) e
+
+-- the three questions of an opening, from their one test
+opening-asked : (n : ℕ) (c : Costs) (al : List ℕ) → (between 1 n 64 && costsWithin c && showsWithin al) ≡ true
+    → (between 1 n 64 ≡ true) × (costsWithin c ≡ true) × (showsWithin al ≡ true)
+opening-asked n c al e =
+    let p = and-left (between 1 n 64 && costsWithin c) (showsWithin al) e in
+    (and-left (between 1 n 64) (costsWithin c) p, and-right (between 1 n 64) (costsWithin c) p, and-right (between 1 n 64 && costsWithin c) (showsWithin al) e)
+
+-- An opening, granted or not, hands back a farm with its arrays.
+pub open-sized : (n : ℕ) (c : Costs) (al : List ℕ) → Sized (openFarm n c al)
+unfolding openFarm
+open-sized n c al = go (between 1 n 64 && costsWithin c && showsWithin al) refl
+  where
+    go : (b : Bool) → (between 1 n 64 && costsWithin c && showsWithin al) ≡ b → Sized (cond b (openedWith n c al) unopened)
+    go true e =
+        let q = opening-asked n c al e in
+        opened-sized n c al (between-is 1 (length al) 32 (and-left (between 1 (length al) 32) (allAtMost greatest al) (q .2)) .1)
+    go false e = unopened-sized
+
+-- A granted opening hands back a farm that passes question 11.
+pub open-passes : (n : ℕ) (c : Costs) (al : List ℕ) → (between 1 n 64 && costsWithin c && showsWithin al) ≡ true → passesOf (openFarm n c al) ≡ true
+open-passes n c al e =
+    let q = opening-asked n c al e in
+    passes-iff (openFarm n c al) (open-sized n c al) .1 (granted q)
+  where
+    granted : (between 1 n 64 ≡ true) × (costsWithin c ≡ true) × (showsWithin al ≡ true) → Passes (openFarm n c al)
+    granted q = subst Passes (sym (opens-with n c al e)) (opened-passes n c al (q .0) (q .1) (q .2))
+
+-- ---- The jobs of a plan
+
+-- What follows for each job from its booking being best behind some free times holds of all jobs of a plan.
+pub plan-all : (P Q : Job → Type 0) (w : Terms) (b : Busy) (js : List Job)
+    → ((x : Busy) (j : Job) → length (x .free) ≡ 64 → P j → Best (requestOf w x j) (x .free) (step w x j .booking) → Q (step w x j))
+    → length (b .free) ≡ 64 → All P js → BestAll w b js → All Q (plan w b js)
+unfolding plan
+plan-all P Q w b [] g l h a = tt
+plan-all P Q w b (j ∷ js) g l h a =
+    (g b j l (h .0) (a .0), plan-all P Q w (busyAfter w b j) js g (afters-length b (linesOf (w .costs) (step w b j)) ∙ l) (h .1) (a .1))
+
+-- A plan keeps the job numbers.
+pub plan-numbers : (w : Terms) (b : Busy) (js : List Job) → map (λ (j : Job). j .number) (plan w b js) ≡ map (λ (j : Job). j .number) js
+unfolding plan
+plan-numbers w b [] = refl
+plan-numbers w b (j ∷ js) = ap (λ (l : List ℕ). j .number ∷ l) (plan-numbers w (busyAfter w b j) js)
+
+-- the figures of a job but its booking, u job numbers used and s shows
+pub record HeadWithin (u s : ℕ) (j : Job) : Type 0 where
+  pub number : Between 1 (j .number) u
+  pub show : Between 1 (j .show) s
+  pub size : Between 1 (j .size) 1_000_000
+  pub deadline : j .deadline ≤ greatest
+
+-- a job of a plan: its figures within the farm's limits, its booking kept, and arrays of their lengths
+pub record Planned (f : Farm) (j : Job) : Type 0 where
+  pub within : JobWithin f j
+  pub kept : Kept f j
+  pub paired : Paired j
+  pub sized : JobSized j
+
+padded : (xs : List ℕ) → length xs ≤ 64 → length (xs ++ replicate (64 - length xs) 0) ≡ 64
+padded xs h = omega (arith, length-append xs (replicate (64 - length xs) 0), length-replicate {A = ℕ} (64 - length xs) 0)
+
+-- a booking's arrays have 64 cells
+booking-sized : (j : Job) → j .booking ≡ bookingOf (j .booking .start) (chosen (j .booking)) (units (j .booking)) → length (chosen (j .booking)) ≤ 64 → length (units (j .booking)) ≤ 64 → JobSized j
+unfolding bookingOf
+booking-sized j e h k =
+    let ks = chosen (j .booking) in
+    let xs = units (j .booking) in
+    record {
+      nodes = ap (λ (b : Booking). length (b .nodes)) e ∙ padded ks h;
+      shares = ap (λ (b : Booking). length (b .shares)) e ∙ padded xs k;
+    }
+
+-- The best booking of a job whose other figures are within the limits is one of a plan.
+pub best-planned : (f : Farm) (b : Busy) (j : Job) → f .nodes ≤ 64 → length (b .free) ≡ 64 → HeadWithin (f .used) (f .shows) j
+    → Best (requestOf (termsOf f) b j) (b .free) (step (termsOf f) b j .booking) → Planned f (step (termsOf f) b j)
+best-planned f b j n l h x =
+    let w = termsOf f in
+    let q = step w b j .booking in
+    let k = x .best .choice in
+    let s = best-sends (requestOf w b j) (b .free) (step w b j) n (omega arith) (h .deadline) x in
+    let some : 1 ≤ length (units q) = some-share (units q) (omega (arith, k .all, h .size .0)) in
+    let by : q .start ≤ j .deadline = finish-latest (f .costs) (q .start) (j .deadline) (units q) .0 (k .ends) .0 in
+    record {
+      within = record {
+        number = h .number;
+        show = h .show;
+        size = h .size;
+        deadline = h .deadline;
+        start = omega (arith, h .deadline);
+        count = (omega (arith, s .shares), s .few);
+        nodes = k .known;
+      };
+      kept = record { clock = omega (arith, k .after); each = k .each; all = k .all; ends = k .ends };
+      paired = (k .paired, omega (arith, k .paired));
+      sized = booking-sized (step w b j) (x .blank) (omega (arith, s .nodes, s .few)) (omega (arith, s .shares, s .few));
+    }
+
+-- ---- An accepted offer
+
+-- the jobs that are walked, their figures within the limits of a farm with one number more
+queue-heads : (f : Farm) (s z d : ℕ) → passesOf f ≡ true → Between 1 s (f .shows) → Between 1 z 1_000_000 → d ≤ greatest → All (HeadWithin (f .used + 1) (f .shows)) (queueOf f s z d)
+queue-heads f s z d e p q r =
+    perm-all (HeadWithin (f .used + 1) (f .shows)) (by-deadline-perm (waitingOf f ++ newJob f s z d ∷ []))
+    (all-join (HeadWithin (f .used + 1) (f .shows)) (waitingOf f) (newJob f s z d ∷ [])
+    (all-map (λ x a. record { number = (a .0 .number .0, omega (arith, a .0 .number .1)); show = a .0 .show; size = a .0 .size; deadline = a .0 .deadline }) (waitingOf f) (passes-jobs f e))
+    (record { number = (omega arith, omega arith); show = p; size = q; deadline = r }, tt))
+
+-- their numbers, all different
+queue-differ : (f : Farm) (s z d : ℕ) → Passes f → Differ (map (λ (j : Job). j .number) (queueOf f s z d))
+queue-differ f s z d p =
+    let ws = waitingOf f in
+    let j = newJob f s z d in
+    let new : All (λ (y : ℕ). f .used + 1 ≡ y → ⊥) (map (λ (x : Job). x .number) ws) =
+    all-image (λ (y : ℕ). f .used + 1 ≡ y → ⊥) (λ (x : Job). x .number) ws (all-map (λ x a e. omega (arith, a .number .1)) ws (p .within .jobs)) in
+    perm-pairs (λ (a b : ℕ). a ≡ b → ⊥) (λ a b n e. n (sym e))
+    (Permᴰ·map (λ (x : Job). x .number) (List·Permᴰ·trans (List·Permᴰ·append-comm (j ∷ []) ws) (by-deadline-perm (ws ++ j ∷ []))))
+    (new, p .sound .differ)
+
+-- what questions 11, 4, 5, 6 and 7 ask, all answered yes
+pub record Granted (f : Farm) (s z d : ℕ) : Type 0 where
+  pub passes : passesOf f ≡ true
+  pub show : Between 1 s (f .shows)
+  pub size : Between 1 z 1_000_000
+  pub clock : f .clock < d
+  pub deadline : d ≤ greatest
+  pub waiting : f .waiting < 128
+  pub used : f .used < greatest
+
+asked-yes : (a b c e g : Bool) → _≡_ {A = ℕ} (cond a (cond b (cond c (cond e (cond g 0 7) 6) 5) 4) 11) 0 → (a ≡ true) × (b ≡ true) × (c ≡ true) × (e ≡ true) × (g ≡ true)
+asked-yes true true true true true h = (refl, refl, refl, refl, refl)
+asked-yes true true true true false h = absurd (omega arith)
+asked-yes true true true false g h = absurd (omega arith)
+asked-yes true true false e g h = absurd (omega arith)
+asked-yes true false c e g h = absurd (omega arith)
+asked-yes false b c e g h = absurd (omega arith)
+
+-- An offer that is asked all its questions up to the walk has each answered yes.
+pub asked-granted : (f : Farm) (s z d : ℕ) → offerAsked f s z d ≡ 0 → Granted f s z d
+unfolding offerAsked
+asked-granted f s z d h =
+    let q = asked-yes (passesOf f) (between 1 s (f .shows)) (between 1 z 1_000_000) (ltb (f .clock) d && leb d greatest) (ltb (f .waiting) 128 && ltb (f .used) greatest) h in
+    let t = deadline-is (f .clock) d (q .3) in
+    let p = place-is (f .waiting) (f .used) (q .4) in
+    record {
+      passes = q .0;
+      show = between-is 1 s (f .shows) (q .1);
+      size = between-is 1 z 1_000_000 (q .2);
+      clock = t .0;
+      deadline = t .1;
+      waiting = p .0;
+      used = p .1;
+    }
+
+module _ (f : Farm) (s z d : ℕ) (sized : Sized f) (g : Granted f s z d) (yes′ : accepts f s z d ≡ true) where
+  figures : Figures f
+  figures = passes-figures f (g .passes)
+
+  best : BestAll (termsOf f) (busyOf f) (queueOf f s z d)
+  best =
+      walk-best (termsOf f) (busyOf f) (queueOf f s z d) (walk-ready f (newJob f s z d) (record { passes = g .passes; size = g .size .0; deadline = g .deadline; waiting = g .waiting }))
+      (omega (arith, sized .free, figures .nodes .1)) yes′
+
+  -- Each job of the plan is within its limits and kept.
+  jobs-planned : All (Planned (withPlan f (planned f s z d))) (planned f s z d)
+  jobs-planned =
+      plan-all (HeadWithin (f .used + 1) (f .shows)) (Planned (withPlan f (planned f s z d))) (termsOf f) (busyOf f) (queueOf f s z d)
+      (λ b j l h x. best-planned (withPlan f (planned f s z d)) b j (figures .nodes .1) l h x) (sized .free)
+      (queue-heads f s z d (g .passes) (g .show) (g .size) (g .deadline)) best
+
+  plan-count : length (planned f s z d) ≡ f .waiting + 1
+  plan-count =
+      plan-length (termsOf f) (busyOf f) (queueOf f s z d) ∙ sym (perm-length (by-deadline-perm (waitingOf f ++ newJob f s z d ∷ []))) ∙ length-append (waitingOf f) (newJob f s z d ∷ [])
+      ∙ ap (λ (x : ℕ). x + 1) (length-take-le (f .waiting) (f .jobs) (omega (arith, sized .jobs, g .waiting)))
+
+  waiting-planned : waitingOf (withPlan f (planned f s z d)) ≡ planned f s z d
+  waiting-planned = take-at (planned f s z d) (drop (f .waiting + 1) (f .jobs)) (f .waiting + 1) plan-count
+
+  -- An accepted offer hands back a farm with its arrays.
+  pub accepted-sized : Sized (withPlan f (planned f s z d))
+  accepted-sized =
+      let rest : All JobSized (drop (f .waiting + 1) (f .jobs)) =
+      all-append JobSized (take (f .waiting + 1) (f .jobs)) (drop (f .waiting + 1) (f .jobs)) (rw take-append-drop (sized .each)) .1 in
+      record {
+        allowances = sized .allowances;
+        held = sized .held;
+        free = sized .free;
+        jobs = omega (arith, length-append (planned f s z d) (drop (f .waiting + 1) (f .jobs)), length-drop (f .waiting + 1) (f .jobs), plan-count, sized .jobs, g .waiting);
+        each = all-join JobSized (planned f s z d) (drop (f .waiting + 1) (f .jobs)) (all-map (λ j h. h .sized) (planned f s z d) jobs-planned) rest;
+      }
+
+  spans-proper : All (Proper 64) (spansOfAll (f .costs) (planned f s z d))
+  spans-proper =
+      spans-all (Proper 64) (f .costs) (planned f s z d)
+      (all-map (λ j h. job-proper (f .costs) 64 j (figures .costs .send .0) (all-map (λ k b. (b .0, omega (arith, b .1, figures .nodes .1))) (chosen (j .booking)) (h .within .nodes)) (h .kept .each))
+      (planned f s z d) jobs-planned)
+
+  chain : Chain (busyOf f) (spansOfAll (f .costs) (planned f s z d))
+  chain = plan-chain (termsOf f) (busyOf f) (queueOf f s z d) best
+
+  -- Each job of the plan is behind the farm's free times.
+  jobs-behind : All (Behind (withPlan f (planned f s z d))) (planned f s z d)
+  jobs-behind =
+      let fits = spans-each (Fits (busyOf f)) (f .costs) (planned f s z d) (chain-follows (busyOf f) (spansOfAll (f .costs) (planned f s z d)) (sized .free) spans-proper .0 chain .0) in
+      all-both (λ j h k. fits-behind (withPlan f (planned f s z d)) (f .costs) j (h .paired) k) (planned f s z d) jobs-planned fits
+
+  -- An accepted offer hands back a farm that passes question 11.
+  pub accepted-passes : Passes (withPlan f (planned f s z d))
+  accepted-passes =
+      let old = passes-iff f sized .0 (g .passes) in
+      let w = old .within in
+      let farm = withPlan f (planned f s z d) in
+      record {
+        opened = old .opened;
+        within = record {
+          nodes = w .nodes;
+          costs = w .costs;
+          shows = w .shows;
+          allowances = w .allowances;
+          held = w .held;
+          clock = w .clock;
+          link = w .link;
+          free = w .free;
+          used = omega (arith, g .used);
+          waiting = omega (arith, g .waiting);
+          jobs = subst (All (JobWithin farm)) (sym waiting-planned) (all-map (λ j h. h .within) (planned f s z d) jobs-planned);
+        };
+        sound = record {
+          jobs = subst (All (JobSound farm)) (sym waiting-planned)
+              (all-both (λ j h b. record { clock = h .kept .clock; link = b .0; free = b .1; each = h .kept .each; all = h .kept .all; ends = h .kept .ends }) (planned f s z d) jobs-planned jobs-behind);
+          apart = subst (λ (l : List Job). Pairs Apart (spansOfAll (f .costs) l)) (sym waiting-planned) (chain-apart (busyOf f) (spansOfAll (f .costs) (planned f s z d)) (sized .free) spans-proper chain);
+          differ = subst (λ (l : List Job). Differ (map (λ (j : Job). j .number) l)) (sym waiting-planned)
+              (subst Differ (sym (plan-numbers (termsOf f) (busyOf f) (queueOf f s z d))) (queue-differ f s z d old));
+        };
+      }
+
+-- ---- Any offer
+
+-- An offer hands back the farm as it was, or the farm with the plan where all questions are answered yes.
+pub offer-cases : (P : Farm → Type 0) (f : Farm) (s z d : ℕ) → P f → (Granted f s z d → accepts f s z d ≡ true → P (withPlan f (planned f s z d))) → P (offerFarm f s z d)
+unfolding offerFarm
+offer-cases P f s z d h k = go (eqb (offerAsked f s z d) 0) (accepts f s z d) refl refl
+  where
+    go : (a b : Bool) → eqb (offerAsked f s z d) 0 ≡ a → accepts f s z d ≡ b → P (cond a (cond b (withPlan f (planned f s z d)) f) f)
+    go true true p q = k (asked-granted f s z d (eqb-true (offerAsked f s z d) 0 p)) q
+    go true false p q = h
+    go false b p q = h
+
+-- An offer, accepted or not, hands back a farm with its arrays.
+pub offer-sized : (f : Farm) (s z d : ℕ) → Sized f → Sized (offerFarm f s z d)
+offer-sized f s z d h = offer-cases Sized f s z d h (λ g e. accepted-sized f s z d h g e)
+
+-- An offer to a farm that passes question 11 hands back a farm that passes it.
+pub offer-passes : (f : Farm) (s z d : ℕ) → Sized f → passesOf f ≡ true → passesOf (offerFarm f s z d) ≡ true
+offer-passes f s z d h e =
+    offer-cases (λ (g : Farm). passesOf g ≡ true) f s z d e
+    (λ g y. passes-iff (withPlan f (planned f s z d)) (accepted-sized f s z d h g y) .1 (accepted-passes f s z d h g y))

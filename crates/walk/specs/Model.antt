@@ -1,0 +1,147 @@
+-- The deadline walk, in the words and the order of document 01. Everything here is a definition; nothing is assumed.
+use Prim.Native.Nat.{ℕ, zero, suc, _+_, _-_, _≤_, _<_, max}
+use mathlib.Core.Path.{_≡_}
+use mathlib.Core.List.{List, [], _∷_, _++_, map}
+use mathlib.Core.Bool.{Bool, true, _&&_}
+use lib.Dec.{leb}
+use lib.ListN.{length, getD, set}
+use Rattle.shares.specs.declared.Costs.{Costs}
+use Rattle.shares.specs.Model.{sendEnd, chunkFinish}
+use Rattle.keys.specs.declared.Key.{Key}
+use Rattle.keys.specs.Model.{sortKeys}
+use Rattle.booking.specs.declared.Request.{Request}
+use Rattle.booking.specs.declared.Booking.{Booking}
+use Rattle.booking.specs.Model.{bookingOf, bookOf}
+use Rattle.booking.specs.Best.{freeAt, chosen, units}
+use Rattle.walk.specs.declared.Job.{Job}
+use Rattle.walk.specs.declared.Terms.{Terms}
+use Rattle.walk.specs.declared.Busy.{Busy}
+use Rattle.walk.specs.declared.Chunk.{Chunk}
+
+-- the greatest tick, allowance and count of job numbers
+abbrev pub greatest : ℕ
+greatest = 1_000_000_000_000
+
+-- ---- Jobs and chunks
+
+-- the job that the array of waiting jobs is filled with
+abbrev pub emptyJob : Job
+emptyJob = record { number = 0; show = 0; size = 0; deadline = 0; booking = bookingOf 0 [] [] }
+
+-- past a list's end
+abbrev pub noJob : Job
+noJob = record { number = 0; show = 0; size = 0; deadline = 0; booking = record { start = 0; count = 0; nodes = []; shares = [] } }
+
+-- the chunks of shares xs on nodes ks, the first send beginning at t
+unfoldable pub chunksFrom : Costs → ℕ → ℕ → ℕ → List ℕ → List ℕ → List Chunk
+chunksFrom c j s t [] [] = []
+chunksFrom c j s t [] (a ∷ xs) = []
+chunksFrom c j s t (k ∷ ks) [] = []
+chunksFrom c j s t (k ∷ ks) (a ∷ xs) =
+    record { job = j; show = s; node = k; units = a; start = t; sent = sendEnd c t a; finish = chunkFinish c t a } ∷ chunksFrom c j s (sendEnd c t a) ks xs
+
+-- the lines of a job's booking, in chunk order
+abbrev pub linesOf : Costs → Job → List Chunk
+linesOf c j = chunksFrom c (j .number) (j .show) (j .booking .start) (chosen (j .booking)) (units (j .booking))
+
+-- a chunk with the start of its job, where its node's span begins
+pub record Span : Type 0 where
+  pub from : ℕ
+  pub chunk : Chunk
+
+abbrev pub spansOf : Costs → Job → List Span
+spansOf c j = map (λ (x : Chunk). record { from = j .booking .start; chunk = x }) (linesOf c j)
+
+-- the spans of several jobs
+unfoldable pub spansOfAll : Costs → List Job → List Span
+spansOfAll c [] = []
+spansOfAll c (j ∷ js) = spansOf c j ++ spansOfAll c js
+
+-- a value of the declared type has arrays of these lengths
+pub record JobSized (j : Job) : Type 0 where
+  pub nodes : length (j .booking .nodes) ≡ 64
+  pub shares : length (j .booking .shares) ≡ 64
+
+-- ---- Spans of ticks
+
+abbrev pub Between : ℕ → ℕ → ℕ → Type 0
+Between a x b = (a ≤ x) × (x ≤ b)
+
+-- a span of ticks includes its first and excludes its last
+abbrev pub Includes : ℕ → ℕ → ℕ → Type 0
+Includes a b t = (a ≤ t) × (t < b)
+
+-- two chunks share no tick of a node or of the link: a node's span runs from the job's start to the chunk's finish, the link's over the send
+pub record Apart (x y : Span) : Type 0 where
+  pub node : x .chunk .node ≡ y .chunk .node → (t : ℕ) → Includes (x .from) (x .chunk .finish) t → Includes (y .from) (y .chunk .finish) t → ⊥
+  pub send : (t : ℕ) → Includes (x .chunk .start) (x .chunk .sent) t → Includes (y .chunk .start) (y .chunk .sent) t → ⊥
+
+-- ---- Free times
+
+-- a chunk moves the link's free time to its send's end and its node's to its finish
+abbrev pub after : Busy → Chunk → Busy
+after b x = record { link = x .sent; free = set (b .free) (x .node - 1) (x .finish) }
+
+unfoldable pub afters : Busy → List Chunk → Busy
+afters b [] = b
+afters b (x ∷ xs) = afters (after b x) xs
+
+-- the spans one after the other, each behind what those before it have left: its send not before the link's free time, nor its span before
+-- its node's
+unfoldable pub fitAll : Busy → List Span → Bool
+fitAll b [] = true
+fitAll b (x ∷ xs) = leb (b .link) (x .chunk .start) && leb (freeAt (b .free) (x .chunk .node)) (x .from) && fitAll (after b (x .chunk)) xs
+
+-- ---- The deadline walk
+
+-- keys of the jobs at places i, i + 1, …, by a time of theirs, equal ones by number
+unfoldable pub keysBy : (Job → ℕ) → ℕ → List Job → List Key
+keysBy t i [] = []
+keysBy t i (j ∷ js) = record { time = t j; number = j .number; place = i } ∷ keysBy t (suc i) js
+
+-- the jobs in the order of their keys
+abbrev pub inOrder : List Job → List Key → List Job
+inOrder js ks = map (λ (x : Key). getD js (x .place) noJob) ks
+
+abbrev pub byTime : (Job → ℕ) → List Job → List Job
+byTime t js = inOrder js (sortKeys (keysBy t 0 js))
+
+abbrev pub deadlineOf : Job → ℕ
+deadlineOf j = j .deadline
+
+abbrev pub startOf : Job → ℕ
+startOf j = j .booking .start
+
+-- jobs by deadline, equal deadlines by job number
+abbrev pub byDeadline : List Job → List Job
+byDeadline = byTime deadlineOf
+
+-- jobs by start
+abbrev pub byStart : List Job → List Job
+byStart = byTime startOf
+
+-- what is asked for a job: no start before the clock or the link's free time
+abbrev pub requestOf : Terms → Busy → Job → Request
+requestOf w b j = record { costs = w .costs; nodes = w .nodes; from = max (w .clock) (b .link); size = j .size; deadline = j .deadline }
+
+-- a job with a booking
+abbrev pub booked : Job → Booking → Job
+booked j b = record { number = j .number; show = j .show; size = j .size; deadline = j .deadline; booking = b }
+
+-- the next job of the walk, booked
+abbrev pub step : Terms → Busy → Job → Job
+step w b j = booked j (bookOf (requestOf w b j) (b .free))
+
+-- the free times once it is booked
+abbrev pub busyAfter : Terms → Busy → Job → Busy
+busyAfter w b j = afters b (linesOf (w .costs) (step w b j))
+
+-- each job in turn, behind those before it
+unfoldable pub plan : Terms → Busy → List Job → List Job
+plan w b [] = []
+plan w b (j ∷ js) = step w b j ∷ plan w (busyAfter w b j) js
+
+-- whether each is booked
+unfoldable pub booksAll : Terms → Busy → List Job → Bool
+booksAll w b [] = true
+booksAll w b (j ∷ js) = leb 1 (step w b j .booking .count) && booksAll w (busyAfter w b j) js
