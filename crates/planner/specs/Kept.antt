@@ -33,87 +33,8 @@ use Rattle.planner.specs.Sound.{Figures, Kept, says-costs, says-at-most,
 use Rattle.planner.specs.Asked.{and-left, and-right, passes-figures, passes-jobs}
 use Rattle.walk.specs.Walk.{best-sends}
 use Rattle.walk.specs.Booked.{BestAll, walk-best}
-use Rattle.planner.specs.Offer.{plan-length, walk-ready, deadline-is, place-is}
-
--- ---- The plan in walk order
-
--- chunks on different nodes, each free by f, sent back to back from t
-chunks-chain : (c : Costs) (j s f t : ℕ) (b : Busy) (ks xs : List ℕ) → b .link ≤ t → All (λ (k : ℕ). 1 ≤ k) ks → All (λ (k : ℕ). freeAt (b .free) k ≤ f) ks → Differ ks
-    → Chain b (map (λ (x : Chunk). record { from = f; chunk = x }) (chunksFrom c j s t ks xs))
-unfolding chunksFrom
-chunks-chain c j s f t b [] [] h p n d = tt
-chunks-chain c j s f t b [] (a ∷ xs) h p n d = tt
-chunks-chain c j s f t b (k ∷ ks) [] h p n d = tt
-chunks-chain c j s f t b (k ∷ ks) (a ∷ xs) h p n d =
-    let x : Chunk = record { job = j; show = s; node = k; units = a; start = t; sent = sendEnd c t a; finish = chunkFinish c t a } in
-    let apart : All (λ (m : ℕ). (1 ≤ m) × (k ≡ m → ⊥)) ks = all-both (λ m q e. (q, e)) ks (p .1) (d .0) in
-    let free : All (λ (m : ℕ). freeAt (set (b .free) (k - 1) (chunkFinish c t a)) m ≤ f) ks =
-    all-both (λ m q e. omega (arith, free-other (b .free) k m (chunkFinish c t a) (p .0) (q .0) (q .1))) ks apart (n .1) in
-    ((h, n .0), chunks-chain c j s f (sendEnd c t a) (after b x) ks xs (omega arith) (p .1) free (d .1))
-
--- The spans of a booking that is best behind b are a chain from b.
-job-chain : (w : Terms) (b : Busy) (j : Job) → Best (requestOf w b j) (b .free) (step w b j .booking) → Chain b (spansOf (w .costs) (step w b j))
-job-chain w b j x =
-    let q = step w b j .booking in
-    let h = x .best .choice in
-    chunks-chain (w .costs) (j .number) (j .show) (q .start) (q .start) b (chosen q) (units q) (omega (arith, h .after)) (all-map (λ k a. a .0) (chosen q) (h .known)) (h .idle) (h .differ)
-
--- The spans of a plan in walk order, each job best behind those before it, are a chain from the walk's free times.
-pub plan-chain : (w : Terms) (b : Busy) (js : List Job) → BestAll w b js → Chain b (spansOfAll (w .costs) (plan w b js))
-unfolding plan spansOfAll
-plan-chain w b [] a = tt
-plan-chain w b (j ∷ js) a =
-    chain-job b (w .costs) (step w b j) (spansOfAll (w .costs) (plan w (busyAfter w b j) js)) .1 (job-chain w b j (a .0), plan-chain w (busyAfter w b j) js (a .1))
-
--- ---- Starts grow
-
--- the link's free time does not fall from send to send
-sends-end : (c : Costs) (j s t : ℕ) (b : Busy) (ks xs : List ℕ) → t ≤ b .link → t ≤ afters b (chunksFrom c j s t ks xs) .link
-unfolding chunksFrom afters
-sends-end c j s t b [] [] h = h
-sends-end c j s t b [] (a ∷ xs) h = h
-sends-end c j s t b (k ∷ ks) [] h = h
-sends-end c j s t b (k ∷ ks) (a ∷ xs) h =
-    let x : Chunk = record { job = j; show = s; node = k; units = a; start = t; sent = sendEnd c t a; finish = chunkFinish c t a } in
-    omega (arith, sends-end c j s (sendEnd c t a) (after b x) ks xs (omega arith))
-
--- a first send takes the link past its start
-sends-pass : (c : Costs) (j s t : ℕ) (b : Busy) (ks xs : List ℕ) → 1 ≤ c .send → length ks ≡ length xs → 1 ≤ length xs → Positive xs → t < afters b (chunksFrom c j s t ks xs) .link
-unfolding chunksFrom afters
-sends-pass c j s t b [] [] m e h p = absurd (omega arith)
-sends-pass c j s t b [] (a ∷ xs) m e h p = absurd (omega arith)
-sends-pass c j s t b (k ∷ ks) [] m e h p = absurd (omega arith)
-sends-pass c j s t b (k ∷ ks) (a ∷ xs) m e h p =
-    let x : Chunk = record { job = j; show = s; node = k; units = a; start = t; sent = sendEnd c t a; finish = chunkFinish c t a } in
-    omega (arith, mul-le-mul-right (c .send) (p .0), sends-end c j s (sendEnd c t a) (after b x) ks xs (omega arith))
-
--- A booked job leaves the link free only after its start.
-link-grows : (w : Terms) (b : Busy) (j : Job) → 1 ≤ w .costs .send → 1 ≤ j .size → Best (requestOf w b j) (b .free) (step w b j .booking)
-    → (b .link ≤ step w b j .booking .start) × (step w b j .booking .start < busyAfter w b j .link)
-link-grows w b j m z x =
-    let q = step w b j .booking in
-    let h = x .best .choice in (
-      omega (arith, h .after),
-      sends-pass (w .costs) (j .number) (j .show) (q .start) b (chosen q) (units q) m (h .paired) (some-share (units q) (omega (arith, h .all))) (h .each),
-    )
-
--- No job of a plan starts before the link's free time.
-pub plan-late : (w : Terms) (b : Busy) (js : List Job) → 1 ≤ w .costs .send → All (λ (j : Job). 1 ≤ j .size) js → BestAll w b js
-    → All (λ (j : Job). b .link ≤ j .booking .start) (plan w b js)
-unfolding plan
-plan-late w b [] m z a = tt
-plan-late w b (j ∷ js) m z a =
-    let g = link-grows w b j m (z .0) (a .0) in
-    (g .0, all-map (λ x h. omega arith) (plan w (busyAfter w b j) js) (plan-late w (busyAfter w b j) js m (z .1) (a .1)))
-
--- Along a plan the starts strictly increase.
-pub starts-grow : (w : Terms) (b : Busy) (js : List Job) → 1 ≤ w .costs .send → All (λ (j : Job). 1 ≤ j .size) js → BestAll w b js
-    → Pairs (λ (i j : Job). i .booking .start < j .booking .start) (plan w b js)
-unfolding plan
-starts-grow w b [] m z a = tt
-starts-grow w b (j ∷ js) m z a =
-    let g = link-grows w b j m (z .0) (a .0) in
-    (all-map (λ x h. omega arith) (plan w (busyAfter w b j) js) (plan-late w (busyAfter w b j) js m (z .1) (a .1)), starts-grow w (busyAfter w b j) js m (z .1) (a .1))
+use Rattle.walk.specs.Plan.{plan-chain, plan-all, plan-numbers, plan-length}
+use Rattle.planner.specs.Offer.{walk-ready, Granted, asked-granted}
 
 -- ---- An opening
 
@@ -200,21 +121,6 @@ open-passes n c al e =
 
 -- ---- The jobs of a plan
 
--- What follows for each job from its booking being best behind some free times holds of all jobs of a plan.
-pub plan-all : (P Q : Job → Type 0) (w : Terms) (b : Busy) (js : List Job)
-    → ((x : Busy) (j : Job) → length (x .free) ≡ 64 → P j → Best (requestOf w x j) (x .free) (step w x j .booking) → Q (step w x j))
-    → length (b .free) ≡ 64 → All P js → BestAll w b js → All Q (plan w b js)
-unfolding plan
-plan-all P Q w b [] g l h a = tt
-plan-all P Q w b (j ∷ js) g l h a =
-    (g b j l (h .0) (a .0), plan-all P Q w (busyAfter w b j) js g (afters-length b (linesOf (w .costs) (step w b j)) ∙ l) (h .1) (a .1))
-
--- A plan keeps the job numbers.
-pub plan-numbers : (w : Terms) (b : Busy) (js : List Job) → map (λ (j : Job). j .number) (plan w b js) ≡ map (λ (j : Job). j .number) js
-unfolding plan
-plan-numbers w b [] = refl
-plan-numbers w b (j ∷ js) = ap (λ (l : List ℕ). j .number ∷ l) (plan-numbers w (busyAfter w b j) js)
-
 -- the figures of a job but its booking, u job numbers used and s shows
 pub record HeadWithin (u s : ℕ) (j : Job) : Type 0 where
   pub number : Between 1 (j .number) u
@@ -288,41 +194,6 @@ queue-differ f s z d p =
     perm-pairs (λ (a b : ℕ). a ≡ b → ⊥) (λ a b n e. n (sym e))
     (Permᴰ·map (λ (x : Job). x .number) (List·Permᴰ·trans (List·Permᴰ·append-comm (j ∷ []) ws) (by-deadline-perm (ws ++ j ∷ []))))
     (new, p .sound .differ)
-
--- what questions 11, 4, 5, 6 and 7 ask, all answered yes
-pub record Granted (f : Farm) (s z d : ℕ) : Type 0 where
-  pub passes : passesOf f ≡ true
-  pub show : Between 1 s (f .shows)
-  pub size : Between 1 z 1_000_000
-  pub clock : f .clock < d
-  pub deadline : d ≤ greatest
-  pub waiting : f .waiting < 128
-  pub used : f .used < greatest
-
-asked-yes : (a b c e g : Bool) → _≡_ {A = ℕ} (cond a (cond b (cond c (cond e (cond g 0 7) 6) 5) 4) 11) 0 → (a ≡ true) × (b ≡ true) × (c ≡ true) × (e ≡ true) × (g ≡ true)
-asked-yes true true true true true h = (refl, refl, refl, refl, refl)
-asked-yes true true true true false h = absurd (omega arith)
-asked-yes true true true false g h = absurd (omega arith)
-asked-yes true true false e g h = absurd (omega arith)
-asked-yes true false c e g h = absurd (omega arith)
-asked-yes false b c e g h = absurd (omega arith)
-
--- An offer that is asked all its questions up to the walk has each answered yes.
-pub asked-granted : (f : Farm) (s z d : ℕ) → offerAsked f s z d ≡ 0 → Granted f s z d
-unfolding offerAsked
-asked-granted f s z d h =
-    let q = asked-yes (passesOf f) (between 1 s (f .shows)) (between 1 z 1_000_000) (ltb (f .clock) d && leb d greatest) (ltb (f .waiting) 128 && ltb (f .used) greatest) h in
-    let t = deadline-is (f .clock) d (q .3) in
-    let p = place-is (f .waiting) (f .used) (q .4) in
-    record {
-      passes = q .0;
-      show = between-is 1 s (f .shows) (q .1);
-      size = between-is 1 z 1_000_000 (q .2);
-      clock = t .0;
-      deadline = t .1;
-      waiting = p .0;
-      used = p .1;
-    }
 
 module _ (f : Farm) (s z d : ℕ) (sized : Sized f) (g : Granted f s z d) (yes′ : accepts f s z d ≡ true) where
   figures : Figures f

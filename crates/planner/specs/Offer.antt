@@ -24,8 +24,9 @@ use Rattle.planner.specs.declared.Reply.{Reply}
 use Rattle.planner.specs.declared.Question.{Question}
 use Rattle.planner.specs.declared.Answer.{Answer}
 use Rattle.planner.specs.declared.Answer.the-variants as answer
-use Rattle.planner.specs.Model.{greatest, between, emptyJob, noJob, linesOf, waitingOf, termsOf, busyOf, byDeadline, requestOf, step, busyAfter, plan, booksAll}
+use Rattle.planner.specs.Model.{greatest, between, emptyJob, noJob, linesOf, waitingOf, termsOf, busyOf, byDeadline, requestOf, step, busyAfter, plan, booksAll, Between}
 use Rattle.planner.specs.Passes.{passesOf}
+use Rattle.walk.specs.Plan.{plan-length, plan-sends}
 use Rattle.planner.specs.Rows.{between-is}
 use Rattle.walk.specs.Order.{by-deadline-perm}
 use Rattle.planner.specs.Asked.{and-left, and-right, passes-figures, passes-jobs}
@@ -106,21 +107,6 @@ ordered-is f j js h e =
     sym (perm-length (by-deadline-perm (waitingOf f ++ j ∷ []))) ∙ length-append (waitingOf f) (j ∷ []) ∙ ap (λ (x : ℕ). x + 1) (length-take-le (f .waiting) (f .jobs) (omega arith)) in
     let w : js ≡ q ++ drop (f .waiting + 1) (f .jobs) = e ∙ rw (n .0, n .1) in
     (rw w (take-at q (drop (f .waiting + 1) (f .jobs)) (f .waiting + 1) l), rw w (drop-at q (drop (f .waiting + 1) (f .jobs)) (f .waiting + 1) l))
-
--- A plan has the jobs that are walked.
-pub plan-length : (w : Terms) (b : Busy) (js : List Job) → length (plan w b js) ≡ length js
-unfolding plan
-plan-length w b [] = refl
-plan-length w b (j ∷ js) = ap suc (plan-length w (busyAfter w b j) js)
-
--- Every job of a plan that books all has chunks that can be worked out.
-pub plan-sends : (w : Terms) (b : Busy) (js : List Job) → w .nodes ≤ 64 → length (b .free) ≡ 64 → All (λ (j : Job). j .deadline ≤ greatest) js → BestAll w b js → All (Sends (w .costs)) (plan w b js)
-unfolding plan
-plan-sends w b [] n l r a = tt
-plan-sends w b (j ∷ js) n l r a = (
-  best-sends (requestOf w b j) (b .free) (step w b j) n (omega arith) (r .0) (a .0),
-  plan-sends w (busyAfter w b j) js n (afters-length b (linesOf (w .costs) (step w b j)) ∙ l) (r .1) (a .1),
-)
 
 -- What holds of each job and of the empty one holds of the job of a number.
 pub of-number : (P : Job → Type 0) (n : ℕ) (js : List Job) → All P js → P emptyJob → P (ofNumber n js)
@@ -212,21 +198,44 @@ pub offer-stopped : (f : Farm) (s z d n : ℕ) → offerAsked f s z d ≡ suc n 
 unfolding offerSaid offerFarm
 offer-stopped f s z d n e = (rw (e, ne-eqb (suc n) 0 (λ h. omega arith)), rw (e, ne-eqb (suc n) 0 (λ h. omega arith)))
 
--- what an offer past those questions has the walk start from
-asked-offered : (f : Farm) (s z d : ℕ) → offerAsked f s z d ≡ 0 → Offered f (newJob f s z d)
+-- what questions 11, 4, 5, 6 and 7 ask, all answered yes
+pub record Granted (f : Farm) (s z d : ℕ) : Type 0 where
+  pub passes : passesOf f ≡ true
+  pub show : Between 1 s (f .shows)
+  pub size : Between 1 z 1_000_000
+  pub clock : f .clock < d
+  pub deadline : d ≤ greatest
+  pub waiting : f .waiting < 128
+  pub used : f .used < greatest
+
+asked-yes : (a b c e g : Bool) → _≡_ {A = ℕ} (cond a (cond b (cond c (cond e (cond g 0 7) 6) 5) 4) 11) 0 → (a ≡ true) × (b ≡ true) × (c ≡ true) × (e ≡ true) × (g ≡ true)
+asked-yes true true true true true h = (refl, refl, refl, refl, refl)
+asked-yes true true true true false h = absurd (omega arith)
+asked-yes true true true false g h = absurd (omega arith)
+asked-yes true true false e g h = absurd (omega arith)
+asked-yes true false c e g h = absurd (omega arith)
+asked-yes false b c e g h = absurd (omega arith)
+
+-- An offer that is asked all its questions up to the walk has each answered yes.
+pub asked-granted : (f : Farm) (s z d : ℕ) → offerAsked f s z d ≡ 0 → Granted f s z d
 unfolding offerAsked
-asked-offered f s z d e =
-    go (passesOf f) (between 1 s (f .shows)) (between 1 z 1_000_000) (ltb (f .clock) d && leb d greatest) (ltb (f .waiting) 128 && ltb (f .used) greatest) refl refl refl refl refl e
-  where
-    go : (p a b c q : Bool) → passesOf f ≡ p → between 1 s (f .shows) ≡ a → between 1 z 1_000_000 ≡ b → (ltb (f .clock) d && leb d greatest) ≡ c
-        → (ltb (f .waiting) 128 && ltb (f .used) greatest) ≡ q → _≡_ {A = ℕ} (cond p (cond a (cond b (cond c (cond q 0 7) 6) 5) 4) 11) 0 → Offered f (newJob f s z d)
-    go true true true true true hp ha hb hc hq e =
-        record { passes = hp; size = between-is 1 z 1_000_000 hb .0; deadline = deadline-is (f .clock) d hc .1; waiting = place-is (f .waiting) (f .used) hq .0 }
-    go true true true true false hp ha hb hc hq e = absurd (omega arith)
-    go true true true false q hp ha hb hc hq e = absurd (omega arith)
-    go true true false c q hp ha hb hc hq e = absurd (omega arith)
-    go true false b c q hp ha hb hc hq e = absurd (omega arith)
-    go false a b c q hp ha hb hc hq e = absurd (omega arith)
+asked-granted f s z d h =
+    let q = asked-yes (passesOf f) (between 1 s (f .shows)) (between 1 z 1_000_000) (ltb (f .clock) d && leb d greatest) (ltb (f .waiting) 128 && ltb (f .used) greatest) h in
+    let t = deadline-is (f .clock) d (q .3) in
+    let p = place-is (f .waiting) (f .used) (q .4) in
+    record {
+      passes = q .0;
+      show = between-is 1 s (f .shows) (q .1);
+      size = between-is 1 z 1_000_000 (q .2);
+      clock = t .0;
+      deadline = t .1;
+      waiting = p .0;
+      used = p .1;
+    }
+
+-- What such an offer has the walk start from.
+granted-offered : (f : Farm) (s z d : ℕ) → Granted f s z d → Offered f (newJob f s z d)
+granted-offered f s z d g = record { passes = g .passes; size = g .size .0; deadline = g .deadline; waiting = g .waiting }
 
 -- **An offer.** Past those questions it is accepted exactly when the walk books every waiting job and the new one, each with the best of all choices
 -- behind those before it, and then the next farm holds exactly that plan; otherwise some job has no choice at all behind the best of those before it,
@@ -237,4 +246,4 @@ pub offer-is : (f : Farm) (s z d : ℕ) → f .nodes ≤ length (f .free) → of
 unfolding offerSaid offerFarm
 offer-is f s z d h e =
     ⊎-elim (λ x. inl (x .0, x .1, rw (e, x .0), rw (e, x .0))) (λ x. inr (x .0, x .1, rw (e, x .0), rw (e, x .0)))
-    (walk-is (termsOf f) (busyOf f) (queueOf f s z d) (walk-ready f (newJob f s z d) (asked-offered f s z d e)) h)
+    (walk-is (termsOf f) (busyOf f) (queueOf f s z d) (walk-ready f (newJob f s z d) (granted-offered f s z d (asked-granted f s z d e))) h)

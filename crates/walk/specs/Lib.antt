@@ -5,3 +5,4 @@ pub mod Chain
 pub mod Rows
 pub mod Walk
 pub mod Booked
+pub mod Plan

@@ -1,0 +1,133 @@
+-- The plan of a walk: its spans follow one another, its starts grow, and each of its jobs is what its walk makes of it.
+use mathlib.Core.Path.{_≡_, refl, ap, sym, subst, _∙_}
+use mathlib.Core.List.{List, [], _∷_, _++_, map}
+use Prim.Native.Nat.{ℕ, zero, suc, _+_, _*_, _-_, _≤_, _<_}
+use native.Mathlib.Nat.{mul-le-mul-right}
+use native.Mathlib.Omega.{arith}
+use lib.ListN.{length, set}
+use Rattle.lists.specs.Laws.{All, Pairs, Differ, all-map, all-both}
+use Rattle.shares.specs.declared.Costs.{Costs}
+use Rattle.shares.specs.Model.{sendEnd, chunkFinish}
+use Rattle.shares.specs.Lists.{Positive}
+use Rattle.booking.specs.Best.{freeAt, chosen, units, Best}
+use Rattle.booking.specs.Booked.{some-share}
+use Rattle.walk.specs.declared.Job.{Job}
+use Rattle.walk.specs.declared.Terms.{Terms}
+use Rattle.walk.specs.declared.Busy.{Busy}
+use Rattle.walk.specs.declared.Chunk.{Chunk}
+use Rattle.walk.specs.Model.{greatest, chunksFrom, linesOf, spansOf, spansOfAll, after, afters, requestOf, step, busyAfter, plan}
+use Rattle.walk.specs.Chain.{Fits, Chain, chain-job, free-other, afters-length}
+use Rattle.walk.specs.Walk.{Sends, best-sends}
+use Rattle.walk.specs.Booked.{BestAll}
+
+-- ---- The plan in walk order
+
+-- chunks on different nodes, each free by f, sent back to back from t
+chunks-chain : (c : Costs) (j s f t : ℕ) (b : Busy) (ks xs : List ℕ) → b .link ≤ t → All (λ (k : ℕ). 1 ≤ k) ks → All (λ (k : ℕ). freeAt (b .free) k ≤ f) ks → Differ ks
+    → Chain b (map (λ (x : Chunk). record { from = f; chunk = x }) (chunksFrom c j s t ks xs))
+unfolding chunksFrom
+chunks-chain c j s f t b [] [] h p n d = tt
+chunks-chain c j s f t b [] (a ∷ xs) h p n d = tt
+chunks-chain c j s f t b (k ∷ ks) [] h p n d = tt
+chunks-chain c j s f t b (k ∷ ks) (a ∷ xs) h p n d =
+    let x : Chunk = record { job = j; show = s; node = k; units = a; start = t; sent = sendEnd c t a; finish = chunkFinish c t a } in
+    let apart : All (λ (m : ℕ). (1 ≤ m) × (k ≡ m → ⊥)) ks = all-both (λ m q e. (q, e)) ks (p .1) (d .0) in
+    let free : All (λ (m : ℕ). freeAt (set (b .free) (k - 1) (chunkFinish c t a)) m ≤ f) ks =
+    all-both (λ m q e. omega (arith, free-other (b .free) k m (chunkFinish c t a) (p .0) (q .0) (q .1))) ks apart (n .1) in
+    ((h, n .0), chunks-chain c j s f (sendEnd c t a) (after b x) ks xs (omega arith) (p .1) free (d .1))
+
+-- The spans of a booking that is best behind b are a chain from b.
+job-chain : (w : Terms) (b : Busy) (j : Job) → Best (requestOf w b j) (b .free) (step w b j .booking) → Chain b (spansOf (w .costs) (step w b j))
+job-chain w b j x =
+    let q = step w b j .booking in
+    let h = x .best .choice in
+    chunks-chain (w .costs) (j .number) (j .show) (q .start) (q .start) b (chosen q) (units q) (omega (arith, h .after)) (all-map (λ k a. a .0) (chosen q) (h .known)) (h .idle) (h .differ)
+
+-- The spans of a plan in walk order, each job best behind those before it, are a chain from the walk's free times.
+pub plan-chain : (w : Terms) (b : Busy) (js : List Job) → BestAll w b js → Chain b (spansOfAll (w .costs) (plan w b js))
+unfolding plan spansOfAll
+plan-chain w b [] a = tt
+plan-chain w b (j ∷ js) a =
+    chain-job b (w .costs) (step w b j) (spansOfAll (w .costs) (plan w (busyAfter w b j) js)) .1 (job-chain w b j (a .0), plan-chain w (busyAfter w b j) js (a .1))
+
+-- ---- Starts grow
+
+-- the link's free time does not fall from send to send
+sends-end : (c : Costs) (j s t : ℕ) (b : Busy) (ks xs : List ℕ) → t ≤ b .link → t ≤ afters b (chunksFrom c j s t ks xs) .link
+unfolding chunksFrom afters
+sends-end c j s t b [] [] h = h
+sends-end c j s t b [] (a ∷ xs) h = h
+sends-end c j s t b (k ∷ ks) [] h = h
+sends-end c j s t b (k ∷ ks) (a ∷ xs) h =
+    let x : Chunk = record { job = j; show = s; node = k; units = a; start = t; sent = sendEnd c t a; finish = chunkFinish c t a } in
+    omega (arith, sends-end c j s (sendEnd c t a) (after b x) ks xs (omega arith))
+
+-- a first send takes the link past its start
+sends-pass : (c : Costs) (j s t : ℕ) (b : Busy) (ks xs : List ℕ) → 1 ≤ c .send → length ks ≡ length xs → 1 ≤ length xs → Positive xs → t < afters b (chunksFrom c j s t ks xs) .link
+unfolding chunksFrom afters
+sends-pass c j s t b [] [] m e h p = absurd (omega arith)
+sends-pass c j s t b [] (a ∷ xs) m e h p = absurd (omega arith)
+sends-pass c j s t b (k ∷ ks) [] m e h p = absurd (omega arith)
+sends-pass c j s t b (k ∷ ks) (a ∷ xs) m e h p =
+    let x : Chunk = record { job = j; show = s; node = k; units = a; start = t; sent = sendEnd c t a; finish = chunkFinish c t a } in
+    omega (arith, mul-le-mul-right (c .send) (p .0), sends-end c j s (sendEnd c t a) (after b x) ks xs (omega arith))
+
+-- A booked job leaves the link free only after its start.
+link-grows : (w : Terms) (b : Busy) (j : Job) → 1 ≤ w .costs .send → 1 ≤ j .size → Best (requestOf w b j) (b .free) (step w b j .booking)
+    → (b .link ≤ step w b j .booking .start) × (step w b j .booking .start < busyAfter w b j .link)
+link-grows w b j m z x =
+    let q = step w b j .booking in
+    let h = x .best .choice in (
+      omega (arith, h .after),
+      sends-pass (w .costs) (j .number) (j .show) (q .start) b (chosen q) (units q) m (h .paired) (some-share (units q) (omega (arith, h .all))) (h .each),
+    )
+
+-- No job of a plan starts before the link's free time.
+pub plan-late : (w : Terms) (b : Busy) (js : List Job) → 1 ≤ w .costs .send → All (λ (j : Job). 1 ≤ j .size) js → BestAll w b js
+    → All (λ (j : Job). b .link ≤ j .booking .start) (plan w b js)
+unfolding plan
+plan-late w b [] m z a = tt
+plan-late w b (j ∷ js) m z a =
+    let g = link-grows w b j m (z .0) (a .0) in
+    (g .0, all-map (λ x h. omega arith) (plan w (busyAfter w b j) js) (plan-late w (busyAfter w b j) js m (z .1) (a .1)))
+
+-- Along a plan the starts strictly increase.
+pub starts-grow : (w : Terms) (b : Busy) (js : List Job) → 1 ≤ w .costs .send → All (λ (j : Job). 1 ≤ j .size) js → BestAll w b js
+    → Pairs (λ (i j : Job). i .booking .start < j .booking .start) (plan w b js)
+unfolding plan
+starts-grow w b [] m z a = tt
+starts-grow w b (j ∷ js) m z a =
+    let g = link-grows w b j m (z .0) (a .0) in
+    (all-map (λ x h. omega arith) (plan w (busyAfter w b j) js) (plan-late w (busyAfter w b j) js m (z .1) (a .1)), starts-grow w (busyAfter w b j) js m (z .1) (a .1))
+
+-- ---- The jobs of a plan
+
+-- What follows for each job from its booking being best behind some free times holds of all jobs of a plan.
+pub plan-all : (P Q : Job → Type 0) (w : Terms) (b : Busy) (js : List Job)
+    → ((x : Busy) (j : Job) → length (x .free) ≡ 64 → P j → Best (requestOf w x j) (x .free) (step w x j .booking) → Q (step w x j))
+    → length (b .free) ≡ 64 → All P js → BestAll w b js → All Q (plan w b js)
+unfolding plan
+plan-all P Q w b [] g l h a = tt
+plan-all P Q w b (j ∷ js) g l h a =
+    (g b j l (h .0) (a .0), plan-all P Q w (busyAfter w b j) js g (afters-length b (linesOf (w .costs) (step w b j)) ∙ l) (h .1) (a .1))
+
+-- A plan keeps the job numbers.
+pub plan-numbers : (w : Terms) (b : Busy) (js : List Job) → map (λ (j : Job). j .number) (plan w b js) ≡ map (λ (j : Job). j .number) js
+unfolding plan
+plan-numbers w b [] = refl
+plan-numbers w b (j ∷ js) = ap (λ (l : List ℕ). j .number ∷ l) (plan-numbers w (busyAfter w b j) js)
+
+-- A plan has the jobs that are walked.
+pub plan-length : (w : Terms) (b : Busy) (js : List Job) → length (plan w b js) ≡ length js
+unfolding plan
+plan-length w b [] = refl
+plan-length w b (j ∷ js) = ap suc (plan-length w (busyAfter w b j) js)
+
+-- Every job of a plan that books all has chunks that can be worked out.
+pub plan-sends : (w : Terms) (b : Busy) (js : List Job) → w .nodes ≤ 64 → length (b .free) ≡ 64 → All (λ (j : Job). j .deadline ≤ greatest) js → BestAll w b js → All (Sends (w .costs)) (plan w b js)
+unfolding plan
+plan-sends w b [] n l r a = tt
+plan-sends w b (j ∷ js) n l r a = (
+  best-sends (requestOf w b j) (b .free) (step w b j) n (omega arith) (r .0) (a .0),
+  plan-sends w (busyAfter w b j) js n (afters-length b (linesOf (w .costs) (step w b j)) ∙ l) (r .1) (a .1),
+)
