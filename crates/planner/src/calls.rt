@@ -16,9 +16,9 @@ use crate::Question;
 use crate::Reply;
 use crate::passing::passes;
 use crate::table::all_at_most;
+use crate::table::between;
 use crate::table::costs_within;
 use crate::table::deadline_within;
-use crate::table::is_between;
 use crate::table::place_left;
 use booking::Booking;
 use shares::Costs;
@@ -105,17 +105,17 @@ impl Farm {
     pub fn open(nodes: u64, costs: Costs, allowances: &[u64]) -> Reply
         ensures { λ r. ⌜ Replies r (openSaid nodes costs (now (allowances .entry))) (openFarm nodes costs (now (allowances .entry))) ⌝ }
     {
-        if !is_between(1, nodes, 64) {
+        if !between(1, nodes, 64) {
             return not_opened(Question::Nodes);
         }
         if !costs_within(costs) {
             return not_opened(Question::Costs);
         }
         let shows = allowances.len();
-        if !is_between(1, shows as u64, 32) {
+        if !between(1, shows as u64, 32) {
             return not_opened(Question::Shows);
         }
-        if !all_at_most(1000000000000, allowances) {
+        if !all_at_most(allowances, shows, 1000000000000) {
             return not_opened(Question::Shows);
         }
         let mut farm = unopened_farm();
@@ -141,10 +141,10 @@ impl Farm {
         if !passes(self) {
             return refused(self, Question::Farm);
         }
-        if !is_between(1, show, self.shows as u64) {
+        if !between(1, show, self.shows as u64) {
             return refused(self, Question::Show);
         }
-        if !is_between(1, size, 1000000) {
+        if !between(1, size, 1000000) {
             return refused(self, Question::Size);
         }
         if !deadline_within(self.clock, deadline) {
@@ -170,7 +170,7 @@ impl Farm {
             return refused(self, Question::Farm);
         }
         let shows = self.shows;
-        if !is_between(1, show, shows as u64) {
+        if !between(1, show, shows as u64) {
             return refused(self, Question::Show);
         }
         let place = (show - 1) as usize;

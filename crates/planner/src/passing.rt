@@ -2,16 +2,21 @@
 // Nothing is taken for granted of the farm: what could make a sum wrap is tested before the sum is made.
 ghost use mathlib.Core.Path.{_≡_};
 ghost use mathlib.Core.Bool.{_&&_};
-ghost use Prim.Native.Nat.{min, _+_, _*_, _-_, _≤_, _<_};
-ghost use lib.Dec.{leb};
+ghost use Prim.Native.Nat.{_+_, _*_, _-_, _≤_, _<_};
 ghost use lib.ListN.{length, take};
 ghost use Rattle.lists.specs.Laws.{All};
 ghost use Rattle.shares.specs.Model.{sendEnd};
 ghost use Rattle.booking.specs.Best.{units};
-ghost use Rattle.planner.specs.Model.{keysBy, startOf, byStart, between, allAtMost, costsWithin, spansOfAll, inOrder, fitAll};
+ghost use Rattle.planner.specs.Model.{keysBy, startOf, byStart, spansOfAll, inOrder, fitAll};
 ghost use Rattle.planner.specs.Passes.{noneOf, allDiffer, passesOf, CostsWithin};
 ghost use Rattle.planner.specs.Tests.{countsWithin, timesWithin, nodesKnown, numbersOf, sharesKept, headWithin, jobPasses, allPass, Usable, Calm, Inside, Swept};
 use crate::Farm;
+use crate::table::all_at_most;
+use crate::table::and;
+use crate::table::at_most;
+use crate::table::between;
+use crate::table::costs_within;
+use crate::table::least;
 use keys::Key;
 use shares::Costs;
 use walk::Busy;
@@ -32,28 +37,7 @@ pub struct Fit {
     pub busy: Busy,
 }
 
-// ---- Single tests
-
-fn and(a: bool, b: bool) -> bool
-    ensures { λ r. ⌜ r ≡ (a && b) ⌝ }
-{
-    if a {
-        return b;
-    }
-    false
-}
-
-fn at_most(x: u64, limit: u64) -> bool
-    ensures { λ r. ⌜ r ≡ leb x limit ⌝ }
-{
-    x <= limit
-}
-
-fn between(low: u64, x: u64, high: u64) -> bool
-    ensures { λ r. ⌜ r ≡ between low x high ⌝ }
-{
-    and(at_most(low, x), at_most(x, high))
-}
+// ---- Widths
 
 fn wide(x: usize) -> u64
     ensures { λ r. ⌜ r ≡ x ⌝ }
@@ -73,44 +57,7 @@ fn wide8(x: u8) -> usize
     x as usize
 }
 
-fn least(a: usize, b: usize) -> usize
-    ensures { λ r. ⌜ r ≡ min a b ⌝ }
-{
-    if a < b {
-        return a;
-    }
-    b
-}
-
 // ---- The farm's figures
-
-// Whether the first `count` numbers are at most `limit`; a count above the length is taken for the length.
-fn all_at_most(xs: &[u64], count: usize, limit: u64) -> bool
-    ensures { λ r. ⌜ r ≡ allAtMost limit (take count (now (xs .entry))) ⌝ }
-{
-    let n = least(count, xs.len());
-    let mut i = 0;
-    while i < n {
-        if limit < xs[i] {
-            return false;
-        }
-        i += 1;
-    }
-    true
-}
-
-fn costs_within(costs: Costs) -> bool
-    ensures { λ r. ⌜ r ≡ costsWithin costs ⌝ }
-{
-    let units = and(
-        between(1, costs.send, 10_000),
-        between(1, costs.compute, 1_000_000),
-    );
-    and(
-        and(units, at_most(costs.link, 1_000_000)),
-        at_most(costs.node, 1_000_000),
-    )
-}
 
 // Two conjunctions, so that each proof stays short: the figures that are no times ..
 fn counts_within(farm: Farm) -> bool

@@ -27,8 +27,8 @@ returns c =
     offer-refused (a .self) (a .show) (a .size) (a .deadline) (c .refused .result) _ (c .refused .ensures)
     (asked-farm (a .self) (a .show) (a .size) (a .deadline) (sym (c .before .before .passes .ensures) ∙ not-true _ (c .before .if1 .taken))) refl
 
-is-between-requires : tie.Need-is-between-requires
-is-between-requires c κs = search needs
+between-requires : tie.Need-between-requires
+between-requires c κs = search needs
 
 refused-requires-2 : tie.Need-refused-requires-2
 refused-requires-2 c κs = search needs
@@ -37,10 +37,10 @@ returns-2 : tie.Need-returns-2
 returns-2 c =
     let a = c .before .before .before .before .before .args in
     offer-refused (a .self) (a .show) (a .size) (a .deadline) (c .refused2 .result) _ (c .refused2 .ensures)
-    (asked-show (a .self) (a .show) (a .size) (a .deadline) (sym (c .before .before .before .before .passes .ensures) ∙ not-false _ (c .before .before .before .if1 .left)) (sym (c .before .before .is-between .ensures) ∙ not-true _ (c .before .if2 .taken))) refl
+    (asked-show (a .self) (a .show) (a .size) (a .deadline) (sym (c .before .before .before .before .passes .ensures) ∙ not-false _ (c .before .before .before .if1 .left)) (sym (c .before .before .between .ensures) ∙ not-true _ (c .before .if2 .taken))) refl
 
-is-between-requires-2 : tie.Need-is-between-requires-2
-is-between-requires-2 c κs = search needs
+between-requires-2 : tie.Need-between-requires-2
+between-requires-2 c κs = search needs
 
 refused-requires-3 : tie.Need-refused-requires-3
 refused-requires-3 c κs = search needs
@@ -49,7 +49,7 @@ returns-3 : tie.Need-returns-3
 returns-3 c =
     let a = c .before .before .before .before .before .before .before .args in
     offer-refused (a .self) (a .show) (a .size) (a .deadline) (c .refused3 .result) _ (c .refused3 .ensures)
-    (asked-size (a .self) (a .show) (a .size) (a .deadline) (sym (c .before .before .before .before .before .before .passes .ensures) ∙ not-false _ (c .before .before .before .before .before .if1 .left)) (sym (c .before .before .before .before .is-between .ensures) ∙ not-false _ (c .before .before .before .if2 .left)) (sym (c .before .before .is-between2 .ensures) ∙ not-true _ (c .before .if3 .taken))) refl
+    (asked-size (a .self) (a .show) (a .size) (a .deadline) (sym (c .before .before .before .before .before .before .passes .ensures) ∙ not-false _ (c .before .before .before .before .before .if1 .left)) (sym (c .before .before .before .before .between .ensures) ∙ not-false _ (c .before .before .before .if2 .left)) (sym (c .before .before .between2 .ensures) ∙ not-true _ (c .before .if3 .taken))) refl
 
 deadline-within-requires : tie.Need-deadline-within-requires
 deadline-within-requires c κs = search needs
@@ -61,7 +61,7 @@ returns-4 : tie.Need-returns-4
 returns-4 c =
     let a = c .before .before .before .before .before .before .before .before .before .args in
     offer-refused (a .self) (a .show) (a .size) (a .deadline) (c .refused4 .result) _ (c .refused4 .ensures)
-    (asked-deadline (a .self) (a .show) (a .size) (a .deadline) (sym (c .before .before .before .before .before .before .before .before .passes .ensures) ∙ not-false _ (c .before .before .before .before .before .before .before .if1 .left)) (sym (c .before .before .before .before .before .before .is-between .ensures) ∙ not-false _ (c .before .before .before .before .before .if2 .left)) (sym (c .before .before .before .before .is-between2 .ensures) ∙ not-false _ (c .before .before .before .if3 .left)) (sym (c .before .before .deadline-within .ensures) ∙ not-true _ (c .before .if4 .taken))) refl
+    (asked-deadline (a .self) (a .show) (a .size) (a .deadline) (sym (c .before .before .before .before .before .before .before .before .passes .ensures) ∙ not-false _ (c .before .before .before .before .before .before .before .if1 .left)) (sym (c .before .before .before .before .before .before .between .ensures) ∙ not-false _ (c .before .before .before .before .before .if2 .left)) (sym (c .before .before .before .before .between2 .ensures) ∙ not-false _ (c .before .before .before .if3 .left)) (sym (c .before .before .deadline-within .ensures) ∙ not-true _ (c .before .if4 .taken))) refl
 
 place-left-requires : tie.Need-place-left-requires
 place-left-requires c κs = search needs
@@ -73,7 +73,7 @@ returns-5 : tie.Need-returns-5
 returns-5 c =
     let a = c .before .before .before .before .before .before .before .before .before .before .before .args in
     offer-refused (a .self) (a .show) (a .size) (a .deadline) (c .refused5 .result) _ (c .refused5 .ensures)
-    (asked-queue (a .self) (a .show) (a .size) (a .deadline) (sym (c .before .before .before .before .before .before .before .before .before .before .passes .ensures) ∙ not-false _ (c .before .before .before .before .before .before .before .before .before .if1 .left)) (sym (c .before .before .before .before .before .before .before .before .is-between .ensures) ∙ not-false _ (c .before .before .before .before .before .before .before .if2 .left)) (sym (c .before .before .before .before .before .before .is-between2 .ensures) ∙ not-false _ (c .before .before .before .before .before .if3 .left)) (sym (c .before .before .before .before .deadline-within .ensures) ∙ not-false _ (c .before .before .before .if4 .left)) (sym (c .before .before .place-left .ensures) ∙ not-true _ (c .before .if5 .taken))) refl
+    (asked-queue (a .self) (a .show) (a .size) (a .deadline) (sym (c .before .before .before .before .before .before .before .before .before .before .passes .ensures) ∙ not-false _ (c .before .before .before .before .before .before .before .before .before .if1 .left)) (sym (c .before .before .before .before .before .before .before .before .between .ensures) ∙ not-false _ (c .before .before .before .before .before .before .before .if2 .left)) (sym (c .before .before .before .before .before .before .between2 .ensures) ∙ not-false _ (c .before .before .before .before .before .if3 .left)) (sym (c .before .before .before .before .deadline-within .ensures) ∙ not-false _ (c .before .before .before .if4 .left)) (sym (c .before .before .place-left .ensures) ∙ not-true _ (c .before .if5 .taken))) refl
 
 add-new-job : tie.Need-add-new-job
 add-new-job c =
@@ -83,7 +83,7 @@ add-new-job c =
 cast-new-job : tie.Need-cast-new-job
 cast-new-job c =
     let a = c .before .before .before .before .before .before .before .before .before .before .before .args in
-    omega (arith, between-is 1 (a .size) 1000000 (sym (c .before .before .before .before .before .before .is-between2 .ensures) ∙ not-false _ (c .before .before .before .before .before .if3 .left)))
+    omega (arith, between-is 1 (a .size) 1000000 (sym (c .before .before .before .before .before .before .between2 .ensures) ∙ not-false _ (c .before .before .before .before .before .if3 .left)))
 
 new-job-requires : tie.Need-new-job-requires
 new-job-requires c κs = search needs
@@ -91,7 +91,7 @@ new-job-requires c κs = search needs
 walk-with-requires : tie.Need-walk-with-requires
 walk-with-requires c κs =
     let a = c .before .before .before .before .before .before .before .before .before .before .before .before .args in
-    let size = between-is 1 (a .size) 1000000 (sym (c .before .before .before .before .before .before .before .is-between2 .ensures) ∙ not-false _ (c .before .before .before .before .before .before .if3 .left)) in
+    let size = between-is 1 (a .size) 1000000 (sym (c .before .before .before .before .before .before .before .between2 .ensures) ∙ not-false _ (c .before .before .before .before .before .before .if3 .left)) in
     let deadline = deadline-is (a .self .clock) (a .deadline) (sym (c .before .before .before .before .before .deadline-within .ensures) ∙ not-false _ (c .before .before .before .before .if4 .left)) in
     let place = place-is (a .self .waiting) (a .self .used) (sym (c .before .before .before .place-left .ensures) ∙ not-false _ (c .before .before .if5 .left)) in
     let offered : Offered (a .self) (newJob (a .self) (a .show) (a .size) (a .deadline)) =
@@ -105,14 +105,14 @@ returns-6 : tie.Need-returns-6
 returns-6 c =
     let a = c .before .before .before .before .before .before .before .before .before .before .before .before .before .before .before .before .args in
     offer-unbooked (a .self) (a .show) (a .size) (a .deadline) (c .refused6 .result) _ refl (c .refused6 .ensures)
-    (asked-all (a .self) (a .show) (a .size) (a .deadline) (sym (c .before .before .before .before .before .before .before .before .before .before .before .before .before .before .before .passes .ensures) ∙ not-false _ (c .before .before .before .before .before .before .before .before .before .before .before .before .before .before .if1 .left)) (sym (c .before .before .before .before .before .before .before .before .before .before .before .before .before .is-between .ensures) ∙ not-false _ (c .before .before .before .before .before .before .before .before .before .before .before .before .if2 .left)) (sym (c .before .before .before .before .before .before .before .before .before .before .before .is-between2 .ensures) ∙ not-false _ (c .before .before .before .before .before .before .before .before .before .before .if3 .left)) (sym (c .before .before .before .before .before .before .before .before .before .deadline-within .ensures) ∙ not-false _ (c .before .before .before .before .before .before .before .before .if4 .left)) (sym (c .before .before .before .before .before .before .before .place-left .ensures) ∙ not-false _ (c .before .before .before .before .before .before .if5 .left)))
+    (asked-all (a .self) (a .show) (a .size) (a .deadline) (sym (c .before .before .before .before .before .before .before .before .before .before .before .before .before .before .before .passes .ensures) ∙ not-false _ (c .before .before .before .before .before .before .before .before .before .before .before .before .before .before .if1 .left)) (sym (c .before .before .before .before .before .before .before .before .before .before .before .before .before .between .ensures) ∙ not-false _ (c .before .before .before .before .before .before .before .before .before .before .before .before .if2 .left)) (sym (c .before .before .before .before .before .before .before .before .before .before .before .between2 .ensures) ∙ not-false _ (c .before .before .before .before .before .before .before .before .before .before .if3 .left)) (sym (c .before .before .before .before .before .before .before .before .before .deadline-within .ensures) ∙ not-false _ (c .before .before .before .before .before .before .before .before .if4 .left)) (sym (c .before .before .before .before .before .before .before .place-left .ensures) ∙ not-false _ (c .before .before .before .before .before .before .if5 .left)))
     (subst (λ (j : Job). booksAll (termsOf (a .self)) (busyOf (a .self)) (byDeadline (waitingOf (a .self) ++ j ∷ [])) ≡ false) (c .before .before .before .before .new-job .ensures)
     (sym (c .before .before .before .walk-with .ensures .books) ∙ not-true _ (c .before .if6 .taken)))
 
 accepted-requires : tie.Need-accepted-requires
 accepted-requires c κs =
     let a = c .before .before .before .before .before .before .before .before .before .before .before .before .before .before .before .before .args in
-    let size = between-is 1 (a .size) 1000000 (sym (c .before .before .before .before .before .before .before .before .before .before .before .is-between2 .ensures) ∙ not-false _ (c .before .before .before .before .before .before .before .before .before .before .if3 .left)) in
+    let size = between-is 1 (a .size) 1000000 (sym (c .before .before .before .before .before .before .before .before .before .before .before .between2 .ensures) ∙ not-false _ (c .before .before .before .before .before .before .before .before .before .before .if3 .left)) in
     let deadline = deadline-is (a .self .clock) (a .deadline) (sym (c .before .before .before .before .before .before .before .before .before .deadline-within .ensures) ∙ not-false _ (c .before .before .before .before .before .before .before .before .if4 .left)) in
     let place = place-is (a .self .waiting) (a .self .used) (sym (c .before .before .before .before .before .before .before .place-left .ensures) ∙ not-false _ (c .before .before .before .before .before .before .if5 .left)) in
     let offered : Offered (a .self) (newJob (a .self) (a .show) (a .size) (a .deadline)) =
@@ -126,7 +126,7 @@ accepted-requires c κs =
 returns-7 : tie.Need-returns-7
 returns-7 c =
     let a = c .before .before .before .before .before .before .before .before .before .before .before .before .before .before .before .before .before .args in
-    let size = between-is 1 (a .size) 1000000 (sym (c .before .before .before .before .before .before .before .before .before .before .before .before .is-between2 .ensures) ∙ not-false _ (c .before .before .before .before .before .before .before .before .before .before .before .if3 .left)) in
+    let size = between-is 1 (a .size) 1000000 (sym (c .before .before .before .before .before .before .before .before .before .before .before .before .between2 .ensures) ∙ not-false _ (c .before .before .before .before .before .before .before .before .before .before .before .if3 .left)) in
     let deadline = deadline-is (a .self .clock) (a .deadline) (sym (c .before .before .before .before .before .before .before .before .before .before .deadline-within .ensures) ∙ not-false _ (c .before .before .before .before .before .before .before .before .before .if4 .left)) in
     let place = place-is (a .self .waiting) (a .self .used) (sym (c .before .before .before .before .before .before .before .before .place-left .ensures) ∙ not-false _ (c .before .before .before .before .before .before .before .if5 .left)) in
     let offered : Offered (a .self) (newJob (a .self) (a .show) (a .size) (a .deadline)) =
@@ -139,7 +139,7 @@ returns-7 c =
     offer-booked (a .self) (a .show) (a .size) (a .deadline) (c .accepted .result)
     (c .accepted .ensures .says ∙ ap (λ (js : List Job). yesOf (a .self .costs) (ofNumber (a .self .used + 1) js)) jobs)
     (c .accepted .ensures .hands ∙ ap (nextFarm (a .self)) (p .plans ok))
-    (asked-all (a .self) (a .show) (a .size) (a .deadline) (sym (c .before .before .before .before .before .before .before .before .before .before .before .before .before .before .before .before .passes .ensures) ∙ not-false _ (c .before .before .before .before .before .before .before .before .before .before .before .before .before .before .before .if1 .left)) (sym (c .before .before .before .before .before .before .before .before .before .before .before .before .before .before .is-between .ensures) ∙ not-false _ (c .before .before .before .before .before .before .before .before .before .before .before .before .before .if2 .left)) (sym (c .before .before .before .before .before .before .before .before .before .before .before .before .is-between2 .ensures) ∙ not-false _ (c .before .before .before .before .before .before .before .before .before .before .before .if3 .left)) (sym (c .before .before .before .before .before .before .before .before .before .before .deadline-within .ensures) ∙ not-false _ (c .before .before .before .before .before .before .before .before .before .if4 .left)) (sym (c .before .before .before .before .before .before .before .before .place-left .ensures) ∙ not-false _ (c .before .before .before .before .before .before .before .if5 .left)))
+    (asked-all (a .self) (a .show) (a .size) (a .deadline) (sym (c .before .before .before .before .before .before .before .before .before .before .before .before .before .before .before .before .passes .ensures) ∙ not-false _ (c .before .before .before .before .before .before .before .before .before .before .before .before .before .before .before .if1 .left)) (sym (c .before .before .before .before .before .before .before .before .before .before .before .before .before .before .between .ensures) ∙ not-false _ (c .before .before .before .before .before .before .before .before .before .before .before .before .before .if2 .left)) (sym (c .before .before .before .before .before .before .before .before .before .before .before .before .between2 .ensures) ∙ not-false _ (c .before .before .before .before .before .before .before .before .before .before .before .if3 .left)) (sym (c .before .before .before .before .before .before .before .before .before .before .deadline-within .ensures) ∙ not-false _ (c .before .before .before .before .before .before .before .before .before .if4 .left)) (sym (c .before .before .before .before .before .before .before .before .place-left .ensures) ∙ not-false _ (c .before .before .before .before .before .before .before .if5 .left)))
     (sym (p .books) ∙ ok)
 
 pub offer-spec : {M : Type 1} → statement M
@@ -149,10 +149,10 @@ offer-spec =
     passes-requires
     refused-requires
     returns
-    is-between-requires
+    between-requires
     refused-requires-2
     returns-2
-    is-between-requires-2
+    between-requires-2
     refused-requires-3
     returns-3
     deadline-within-requires

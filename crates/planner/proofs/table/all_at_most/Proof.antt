@@ -1,23 +1,28 @@
--- `planner::table::all_at_most` meets its contract: the numbers passed are within the limit, so the answer is that of the rest.
-use mathlib.Core.Path.{_≡_, refl, ap, sym, _∙_}
-use Prim.Native.Nat.{_≤_, _-_}
+-- `passing::all_at_most` meets its contract. The loop's invariant: what is left of the numbers decides. The measure is how many are left.
+use mathlib.Core.Path.{_≡_, sym, ap, _∙_}
+use Prim.Native.Nat.{ℕ, _-_, _≤_}
 use native.Mathlib.Omega.{arith}
-use lib.ListN.{length, getD, drop, drop-of-length-le}
-use borrow.Author.Tests.{lt-leb, le-leb}
+use lib.ListN.{length, take}
+use lib.Seq.{slice}
 use Rattle.planner.specs.Model.{allAtMost}
-use Rattle.planner.specs.Rows.{most-next}
+use Rattle.planner.specs.Tests.{take-least, at-most-more, at-most-stop, at-most-none}
 use borrow.Author.Needs.{needs}
 use Rattle.planner.proofs.table.all_at_most.Statement.{statement}
 use Rattle.planner.proofs.table.all_at_most.Tie as tie
 
 abbrev Inv-loop : tie.InvT-loop
-Inv-loop limit row i₀ i = (i ≤ length row) × (allAtMost limit row ≡ allAtMost limit (drop i row))
+Inv-loop xs count limit n i₀ i = (i ≤ n) × (n ≤ length xs) × (allAtMost limit (slice i n xs) ≡ allAtMost limit (take count xs))
 
 abbrev μ-loop : tie.MeasureT-loop
-μ-loop limit row i₀ i = length row - i
+μ-loop xs count limit n i₀ i = n - i
+
+least-requires : tie.Need-least-requires Inv-loop μ-loop
+least-requires c κs = search needs
 
 loop-holds : tie.Need-loop-holds Inv-loop μ-loop
-loop-holds c = (omega arith, refl)
+loop-holds c =
+    let a = c .before .before .args in
+    (omega arith, omega arith, ap (λ (n : ℕ). allAtMost (a .limit) (take n (a .xs .now))) (c .least .ensures) ∙ ap (allAtMost (a .limit)) (take-least (a .count) (a .xs .now)))
 
 mul-if1 : tie.Need-mul-if1 Inv-loop μ-loop
 mul-if1 c = search needs
@@ -27,9 +32,9 @@ shared-slice-read-if1 c = search needs
 
 returns : tie.Need-returns Inv-loop μ-loop
 returns c =
-    let a = c .before .before .before .before .args in
+    let a = c .before .before .before .before .before .before .args in
     let l = c .before .before .before .loop in
-    sym (l .inv .1 ∙ most-next (a .limit) (l .i) (a .row .now) (c .before .before .loop-test .taken) ∙ rw (lt-leb (getD (a .row .now) (l .i) 0) (a .limit) (c .if1 .taken)))
+    sym (sym (l .inv .2) ∙ at-most-stop (a .limit) (a .xs .now) (l .i) (c .before .before .before .before .least .result) (c .before .before .loop-test .taken) (l .inv .1) (c .if1 .taken))
 
 add-i : tie.Need-add-i Inv-loop μ-loop
 add-i c = search needs
@@ -39,16 +44,16 @@ loop-less c = search needs
 
 loop-again : tie.Need-loop-again Inv-loop μ-loop
 loop-again c =
-    let a = c .before .before .before .before .args in
+    let a = c .before .before .before .before .before .before .args in
     let l = c .before .before .before .loop in
-    (omega arith, l .inv .1 ∙ most-next (a .limit) (l .i) (a .row .now) (c .before .before .loop-test .taken) ∙ rw (le-leb (getD (a .row .now) (l .i) 0) (a .limit) (c .if1 .left)))
+    (omega arith, l .inv .1, sym (at-most-more (a .limit) (a .xs .now) (l .i) (c .before .before .before .before .least .result) (c .before .before .loop-test .taken) (l .inv .1) (c .if1 .left)) ∙ l .inv .2)
 
 returns-2 : tie.Need-returns-2 Inv-loop μ-loop
-unfolding allAtMost
 returns-2 c =
-    let a = c .before .before .args in
+    let a = c .before .before .before .before .args in
     let l = c .before .loop in
-    sym (l .inv .1 ∙ ap (allAtMost (a .limit)) (drop-of-length-le (a .row .now) {i = l .i} (c .loop-test .left)))
+    let all : l .i ≡ c .before .before .least .result = omega arith in
+    sym (at-most-none (a .limit) (a .xs .now) (c .before .before .least .result)) ∙ ap (λ (k : ℕ). allAtMost (a .limit) (slice k (c .before .before .least .result) (a .xs .now))) (sym all) ∙ l .inv .2
 
 pub all-at-most-spec : {M : Type 1} → statement M
 all-at-most-spec =
@@ -56,6 +61,7 @@ all-at-most-spec =
     (tie.spec
     Inv-loop
     μ-loop
+    least-requires
     loop-holds
     mul-if1
     shared-slice-read-if1

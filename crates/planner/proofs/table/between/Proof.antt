@@ -1,7 +1,7 @@
 -- `passing::between` meets its contract: two tests.
 use borrow.Author.Needs.{needs}
-use Rattle.planner.proofs.passing.between.Statement.{statement}
-use Rattle.planner.proofs.passing.between.Tie as tie
+use Rattle.planner.proofs.table.between.Statement.{statement}
+use Rattle.planner.proofs.table.between.Tie as tie
 
 at-most-requires : tie.Need-at-most-requires
 at-most-requires c κs = search needs
