@@ -1,15 +1,15 @@
 // The calls on a farm.
 ghost use mathlib.Core.Path.{_≡_};
 ghost use Prim.Native.Nat.{_-_, _≤_};
-ghost use mathlib.Core.List.{[], _++_};
-ghost use lib.ListN.{length, take, replicate};
+ghost use mathlib.Core.List.{[], _∷_, _++_};
+ghost use lib.ListN.{length, getD, take, replicate};
 ghost use Rattle.shares.specs.Model.{finish};
 ghost use Rattle.booking.specs.Best.{units};
 ghost use Rattle.walk.specs.Walk.{Sends};
 ghost use Rattle.planner.specs.Offer.{Offered, PlanWith, Accepting, Accepts};
 ghost use Rattle.booking.specs.Model.{bookingOf};
 ghost use Rattle.planner.specs.Model.{emptyJob};
-ghost use Rattle.planner.specs.Calls.{Replies, unopened, openSaid, openFarm, accountSaid, ofNumber, offerSaid, offerFarm};
+ghost use Rattle.planner.specs.Calls.{said, granted, Replies, unopened, openSaid, openFarm, accountSaid, ofNumber, offerSaid, offerFarm};
 use crate::Answer;
 use crate::Farm;
 use crate::Question;
@@ -100,6 +100,20 @@ fn in_array(row: &[u64]) -> [u64; 32]
     out
 }
 
+// A show's two columns: its held ticks, and those above its allowance.
+fn columns(held: [u64; 32], allowances: [u64; 32], show: u64) -> Answer
+    requires { ⌜ (1 ≤ show) × (show ≤ 32) ⌝ }
+    ensures { λ r. ⌜ said r ≡ granted (show ∷ getD held (show - 1) 0 ∷ (getD held (show - 1) 0 - getD allowances (show - 1) 0) ∷ []) ⌝ }
+{
+    let place = (show - 1) as usize;
+    let ticks = held[place];
+    Answer::Account {
+        show,
+        held: ticks,
+        charged: less(ticks, allowances[place]),
+    }
+}
+
 impl Farm {
     // Opening: questions 1, 2 and 3 in that order.
     pub fn open(nodes: u64, costs: Costs, allowances: &[u64]) -> Reply
@@ -173,15 +187,10 @@ impl Farm {
         if !between(1, show, shows as u64) {
             return refused(self, Question::Show);
         }
-        let place = (show - 1) as usize;
-        let held = self.held[place];
-        let allowance = self.allowances[place];
+        let held = self.held;
+        let allowances = self.allowances;
         Reply {
-            answer: Answer::Account {
-                show,
-                held,
-                charged: less(held, allowance),
-            },
+            answer: columns(held, allowances, show),
             farm: self,
         }
     }
