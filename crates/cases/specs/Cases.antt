@@ -1,0 +1,125 @@
+-- Cases A to M of document 01, "Windows to try", as one table and one theorem about the model. The checker works each row out.
+use Prim.Native.Nat.{ℕ, _+_}
+use mathlib.Core.Path.{_≡_, refl}
+use mathlib.Core.List.{List, [], _∷_}
+use Rattle.lists.specs.Laws.{All}
+use Rattle.shares.specs.declared.Costs.{Costs}
+use Rattle.shares.specs.Model.{finish, sum, first, left, capacity, cut, greedy, earliest}
+use Rattle.keys.specs.Model.{noLater, insertKey, sortOnto}
+use Rattle.booking.specs.Best.{units}
+use Rattle.booking.specs.Model.{nodeKeys, ranked, search, bookingOf, bookedAt, bookOf}
+use Rattle.planner.specs.declared.Farm.{Farm}
+use Rattle.planner.specs.Model.{allAtMost, allAtLeast, costsWithin, chunksFrom, spansOfAll, afters, waitingOf, keysBy, plan, booksAll, fitAll}
+use Rattle.planner.specs.Passes.{figuresWithin, jobWithin, jobKept, jobsPass, noneOf, allDiffer, passesOf}
+use Rattle.planner.specs.Calls.{Said, granted, refused, openFarm, ofNumber, offerAsked, offerSaid, offerFarm}
+
+-- an offer of a job
+pub record Offer : Type 0 where
+  pub show : ℕ
+  pub size : ℕ
+  pub deadline : ℕ
+
+-- what comes of an offer: the answer, and the shares of the new job in the farm that is handed back (none where it is refused)
+pub record Outcome : Type 0 where
+  pub answer : Said
+  pub shares : List ℕ
+
+-- a row of the table: a farm to open, the offers made before, the offer in question, and what is expected of it
+pub record Row : Type 0 where
+  pub nodes : ℕ
+  pub costs : Costs
+  pub allowances : List ℕ
+  pub before : List Offer
+  pub offer : Offer
+  pub expected : Outcome
+
+-- job, start, finish, count of nodes, and shares
+abbrev pub yes : ℕ → ℕ → ℕ → ℕ → List ℕ → Outcome
+yes j s t k xs = record { answer = granted (j ∷ s ∷ t ∷ k ∷ []); shares = xs }
+
+-- refused with a number
+abbrev pub no : ℕ → Outcome
+no n = record { answer = refused n; shares = [] }
+
+-- the farm once each offer of a list is made
+unfoldable pub offered : Farm → List Offer → Farm
+offered f [] = f
+offered f (o ∷ os) = offered (offerFarm f (o .show) (o .size) (o .deadline)) os
+
+-- an offer made to a farm
+unfoldable pub outcome : Farm → Offer → Outcome
+outcome f o = record {
+  answer = offerSaid f (o .show) (o .size) (o .deadline);
+  shares = units (ofNumber (f .used + 1) (waitingOf (offerFarm f (o .show) (o .size) (o .deadline))) .booking);
+}
+
+-- a row as the model has it
+unfoldable pub run : Row → Outcome
+run r = outcome (offered (openFarm (r .nodes) (r .costs) (r .allowances)) (r .before)) (r .offer)
+
+-- the model gives what the row expects
+abbrev pub Right : Row → Type 0
+Right r = run r ≡ r .expected
+
+-- ---- The table
+
+-- m, p, ST, SC
+abbrev pub costsOf : ℕ → ℕ → ℕ → ℕ → Costs
+costsOf m p st sc = record { send = m; compute = p; link = st; node = sc }
+
+-- one offer to a new farm of one show: all nodes and the link free, start 0, so that the window is the deadline
+abbrev pub alone : ℕ → Costs → ℕ → ℕ → Outcome → Row
+alone n c z w e = record {
+  nodes = n;
+  costs = c;
+  allowances = 0 ∷ [];
+  before = [];
+  offer = record { show = 1; size = z; deadline = w };
+  expected = e;
+}
+
+-- an offer of size 2 after jobs 1 and 2 of the printed listing, at clock 0
+abbrev pub afterListing : ℕ → Outcome → Row
+afterListing d e = record {
+  nodes = 3;
+  costs = costsOf 1 2 0 0;
+  allowances = 30 ∷ 0 ∷ [];
+  before = record { show = 1; size = 10; deadline = 18 } ∷ record { show = 2; size = 3; deadline = 20 } ∷ [];
+  offer = record { show = 2; size = 2; deadline = d };
+  expected = e;
+}
+
+abbrev pub cases : List Row
+cases =
+    -- A
+    alone 64 (costsOf 1 2 0 0) 10 30 (yes 1 0 30 1 (10 ∷ []))
+    -- B
+    ∷ alone 64 (costsOf 1 2 0 0) 10 29 (yes 1 0 18 2 (6 ∷ 4 ∷ []))
+    -- C
+    ∷ alone 64 (costsOf 1 2 0 0) 10 18 (yes 1 0 18 2 (6 ∷ 4 ∷ []))
+    -- D
+    ∷ alone 64 (costsOf 1 2 0 0) 10 17 (yes 1 0 15 3 (5 ∷ 3 ∷ 2 ∷ []))
+    -- E: not on three nodes
+    ∷ alone 3 (costsOf 1 2 0 0) 10 14 (no 8)
+    -- F
+    ∷ alone 64 (costsOf 10 20 0 0) 4 80 (yes 1 0 80 2 (2 ∷ 2 ∷ []))
+    -- G
+    ∷ alone 64 (costsOf 10 20 0 0) 4 75 (yes 1 0 60 3 (2 ∷ 1 ∷ 1 ∷ []))
+    -- H
+    ∷ alone 64 (costsOf 1 2 2 1) 3 12 (yes 1 0 12 1 (3 ∷ []))
+    -- I
+    ∷ alone 64 (costsOf 1 2 2 1) 3 10 (yes 1 0 10 2 (2 ∷ 1 ∷ []))
+    -- J: on no count of nodes
+    ∷ alone 64 (costsOf 1 2 2 1) 3 9 (no 8)
+    -- K
+    ∷ afterListing 24 (yes 3 18 24 1 (2 ∷ []))
+    -- L
+    ∷ afterListing 22 (yes 3 18 22 2 (1 ∷ 1 ∷ []))
+    -- M
+    ∷ afterListing 21 (no 8)
+    ∷ []
+
+-- every row comes out as expected
+pub cases-right : All Right cases
+unfolding run offered outcome openFarm offerAsked offerSaid offerFarm ofNumber passesOf figuresWithin costsWithin allAtMost allAtLeast jobsPass jobWithin jobKept noneOf allDiffer fitAll spansOfAll chunksFrom afters keysBy plan booksAll noLater insertKey sortOnto nodeKeys ranked search bookingOf bookedAt bookOf finish sum first left capacity cut greedy earliest
+cases-right = (refl, (refl, (refl, (refl, (refl, (refl, (refl, (refl, (refl, (refl, (refl, (refl, (refl, tt)))))))))))))
