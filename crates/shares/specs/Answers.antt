@@ -69,6 +69,13 @@ capacity-next c (suc n) w h e =
     let g = answered-is c (suc n) e in
     rw (capacity-answer c (suc n) w e, sub-one (suc n), capacity-answer c n (left c w (first c w)) (answered c n (g .0) (omega arith)))
 
+-- One node more of those that are added up: what they hold, with what the rest hold of what they leave, stays the capacity.
+pub capacity-more : (c : Costs) (n k w units v : ℕ) → answers c n ≡ true → k < n → units + capacityOf c (n - k) v ≡ capacityOf c n w
+    → units + first c v + capacityOf c (n - (k + 1)) (left c v (first c v)) ≡ capacityOf c n w
+capacity-more c n k w units v e h q =
+    let s : n - (k + 1) ≡ n - k - 1 = omega arith in
+    rw s (omega (arith, capacity-next c (n - k) v (omega arith) (answered c (n - k) (answered-is c n e .0) (omega (arith, answered-is c n e .1)))))
+
 -- ---- The fewest nodes
 
 pub fewest-answer : (c : Costs) (n z w : ℕ) → answers c n ≡ true → fewestOf c n z w ≡ fewest c n z w

@@ -2,7 +2,8 @@
 // nodes, in how short a window, and with which shares. It knows nothing of jobs, shows, clocks or farms.
 // What each function means is in specs/Model.antt; the other files of specs/ show what follows.
 ghost use mathlib.Core.Path.{_≡_};
-ghost use Prim.Native.Nat.{_-_};
+ghost use mathlib.Core.Bool.{true};
+ghost use Prim.Native.Nat.{_-_, _≤_, _<_};
 ghost use Rattle.shares.specs.Model.{first, answers, nextOf, capacityOf, fewestOf, earliestOf, sharesOf};
 
 // Ticks: to send a unit (document 01's m), to compute a unit (p), to set up a send on the link (ST), to
@@ -124,22 +125,167 @@ pub fn fewest_nodes(costs: Costs, nodes: usize, size: u64, window: u64) -> Fewes
     Fewest::None
 }
 
-// The earliest finish: the least window, of at most the given one, in which the nodes hold a size, found by
-// halving. Where the given window is too short it is the answer.
+// A window that was tried: what the nodes hold in it, and how many ticks less (`spare`) or more (`gap`) change
+// some share. Only the units are relied on; the other numbers make for good guesses.
+struct Tried {
+    window: u64,
+    units: u64,
+    spare: u64,
+    gap: u64,
+}
+
+fn smaller(a: u64, b: u64) -> u64 {
+    if a < b {
+        return a;
+    }
+    b
+}
+
+// The ticks of a unit, sent and computed; no more than a guess where they wrap.
+fn each_of(costs: Costs) -> u64 {
+    std::num::wrapping_add_u64(costs.send, costs.compute)
+}
+
+// The ticks of a window that its first node has no use for: too few for one unit more.
+fn unused(costs: Costs, window: u64) -> u64 {
+    let each = each_of(costs);
+    if each == 0 {
+        return 0;
+    }
+    less(less(window, costs.link), costs.node) % each
+}
+
+// Tries a window: the shares are added up as in `capacity`.
+fn try_window(costs: Costs, nodes: usize, window: u64) -> Tried
+    requires { ⌜ answers costs nodes ≡ true ⌝ }
+    ensures { λ r. ⌜ r .units ≡ capacityOf costs nodes window ⌝ }
+{
+    let mut units: u64 = 0;
+    let mut spare = window;
+    let mut gap = each_of(costs);
+    let mut left = window;
+    let mut count: usize = 0;
+    while count < nodes {
+        let node = next_share(costs, left);
+        if node.units == 0 {
+            return Tried {
+                window,
+                units,
+                spare,
+                gap,
+            };
+        }
+        let over = unused(costs, left);
+        units += node.units;
+        spare = smaller(spare, over);
+        gap = smaller(gap, less(each_of(costs), over));
+        left = node.left;
+        count += 1;
+    }
+    Tried {
+        window,
+        units,
+        spare,
+        gap,
+    }
+}
+
+// The product, and the largest number where it would wrap.
+fn product(a: u64, b: u64) -> u64 {
+    if b == 0 {
+        return 0;
+    }
+    if 18446744073709551615 / b < a {
+        return 18446744073709551615;
+    }
+    a * b
+}
+
+// Where the first guess starts from: a window for the setups alone, as if half the sends had to wait.
+fn setups(costs: Costs, nodes: usize) -> Tried {
+    let waits = product(costs.link, nodes as u64) / 2;
+    let once = std::num::wrapping_add_u64(costs.link, costs.node);
+    Tried {
+        window: std::num::wrapping_add_u64(once, waits),
+        units: 0,
+        spare: 0,
+        gap: each_of(costs),
+    }
+}
+
+// The window between two others that should hold `need` units more than the shorter one, in proportion.
+fn in_proportion(short: Tried, long: Tried, need: u64) -> u64 {
+    let more = less(long.units, short.units);
+    if more == 0 {
+        return short.window;
+    }
+    let span = less(long.window, short.window);
+    std::num::wrapping_add_u64(short.window, product(span, need) / more)
+}
+
+// A guess at the least window between one that is too short and one that is long enough. Where one of them is
+// as good as right, it is the next at which a share changes.
+fn guess(short: Tried, long: Tried, size: u64) -> u64 {
+    if long.units == size {
+        return less(less(long.window, long.spare), 1);
+    }
+    let need = less(size, short.units);
+    if need == 1 {
+        return std::num::wrapping_add_u64(short.window, short.gap);
+    }
+    in_proportion(short, long, need)
+}
+
+// The next window to try, from `low` to below `high`. Each fourth is halfway, so that bad guesses do not matter.
+fn next_window(low: u64, high: u64, turn: u64, guess: u64) -> u64
+    requires { ⌜ low < high ⌝ }
+    ensures { λ r. ⌜ (low ≤ r) × (r < high) ⌝ }
+{
+    if turn == 3 {
+        return low + (high - low) / 2;
+    }
+    if guess < low {
+        return low;
+    }
+    if high <= guess {
+        return high - 1;
+    }
+    guess
+}
+
+fn next_turn(turn: u64) -> u64 {
+    if turn < 3 {
+        return turn + 1;
+    }
+    0
+}
+
+// The earliest finish: the least window, of at most the given one, in which the nodes hold a size. Where the
+// given window is too short it is the answer. Windows are tried by good guesses, most often 3 to 7 of them.
 pub fn earliest_finish(costs: Costs, nodes: usize, size: u64, window: u64) -> u64
     ensures { λ r. ⌜ r ≡ earliestOf costs nodes size window ⌝ }
 {
     if !answerable(costs, nodes) {
         return window;
     }
+    let mut long = try_window(costs, nodes, window);
+    if long.units < size {
+        return window;
+    }
+    let mut short = setups(costs, nodes);
     let mut low: u64 = 0;
     let mut high = window;
+    let mut turn: u64 = 0;
     while low < high {
-        let middle = low + (high - low) / 2;
-        if size <= capacity(costs, nodes, middle) {
+        let middle = next_window(low, high, turn, guess(short, long, size));
+        let next = try_window(costs, nodes, middle);
+        turn = next_turn(turn);
+        if size <= next.units {
             high = middle;
+            long = next;
         } else {
             low = middle + 1;
+            short = next;
         }
     }
     high

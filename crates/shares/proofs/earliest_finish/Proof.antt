@@ -1,24 +1,24 @@
 -- `shares::earliest_finish` meets its contract. The loop's invariant: the least window is not above `high`, and every window below
 -- `low` is too short. The measure is what lies between them.
 use mathlib.Core.Bool.{true}
-use mathlib.Core.Path.{_≡_, refl, sym, ap, _∙_}
-use Prim.Native.Nat.{ℕ, _+_, _-_, _/_, _≤_, _<_}
+use mathlib.Core.Path.{_≡_, refl, sym, _∙_}
+use Prim.Native.Nat.{ℕ, _-_, _≤_, _<_}
 use native.Mathlib.Omega.{arith}
 use borrow.Author.Tests.{not-true, not-false}
 use Rattle.shares.specs.Model.{capacity, earliest, answers}
 use Rattle.shares.specs.Capacity.{longer}
-use Rattle.shares.specs.Least.{earliest-same, earliest-stays}
+use Rattle.shares.specs.Least.{earliest-same, earliest-stays, earliest-short}
 use Rattle.shares.specs.Answers.{answered-is, capacity-answer, earliest-refused, earliest-answer}
 use borrow.Author.Needs.{needs}
 use Rattle.shares.proofs.earliest_finish.Statement.{statement}
 use Rattle.shares.proofs.earliest_finish.Tie as tie
 
 abbrev Inv-loop : tie.InvT-loop
-Inv-loop costs nodes size window low₀ high₀ low high =
-    (low ≤ high) × (high ≤ window) × (earliest costs nodes size high ≡ earliest costs nodes size window) × ((v : ℕ) → v < low → capacity costs nodes v < size)
+Inv-loop costs nodes size window long₀ short₀ low₀ high₀ turn₀ long short low high turn =
+    (answers costs nodes ≡ true) × (low ≤ high) × (high ≤ window) × (earliest costs nodes size high ≡ earliest costs nodes size window) × ((v : ℕ) → v < low → capacity costs nodes v < size)
 
 abbrev μ-loop : tie.MeasureT-loop
-μ-loop costs nodes size window low₀ high₀ low high = high - low
+μ-loop costs nodes size window long₀ short₀ low₀ high₀ turn₀ long short low high turn = high - low
 
 answerable-requires : tie.Need-answerable-requires Inv-loop μ-loop
 answerable-requires c κs = search needs
@@ -28,30 +28,46 @@ returns c =
     let a = c .before .before .args in
     sym (earliest-refused (a .costs) (a .nodes) (a .size) (a .window) (sym (c .before .answerable .ensures) ∙ not-true _ (c .if1 .taken)))
 
+try-window-requires : tie.Need-try-window-requires Inv-loop μ-loop
+try-window-requires c κs = sym (c .before .answerable .ensures) ∙ not-false _ (c .if1 .left)
+
+returns-2 : tie.Need-returns-2 Inv-loop μ-loop
+returns-2 c =
+    let a = c .before .before .before .before .before .args in
+    let ok : answers (a .costs) (a .nodes) ≡ true = sym (c .before .before .before .before .answerable .ensures) ∙ not-false _ (c .before .before .before .if1 .left) in
+    let held : c .before .before .try-window .result .units ≡ capacity (a .costs) (a .nodes) (a .window) = c .before .before .try-window .ensures ∙ capacity-answer (a .costs) (a .nodes) (a .window) ok in
+    sym (earliest-answer (a .costs) (a .nodes) (a .size) (a .window) ok ∙ earliest-short (a .costs) (answered-is (a .costs) (a .nodes) ok .0) (a .nodes) (a .size) (a .window) (omega arith))
+
+setups-requires : tie.Need-setups-requires Inv-loop μ-loop
+setups-requires c κs = search needs
+
 loop-holds : tie.Need-loop-holds Inv-loop μ-loop
-loop-holds c = (omega arith, omega arith, refl, λ v h. absurd (omega arith))
+loop-holds c = (sym (c .before .before .before .before .before .answerable .ensures) ∙ not-false _ (c .before .before .before .before .if1 .left), omega arith, omega arith, refl, λ v h. absurd (omega arith))
 
-sub-middle : tie.Need-sub-middle Inv-loop μ-loop
-sub-middle c = search needs
+guess-requires : tie.Need-guess-requires Inv-loop μ-loop
+guess-requires c κs = search needs
 
-add-middle : tie.Need-add-middle Inv-loop μ-loop
-add-middle c = search needs
+next-window-requires : tie.Need-next-window-requires Inv-loop μ-loop
+next-window-requires c κs = search needs
 
-capacity-requires : tie.Need-capacity-requires Inv-loop μ-loop
-capacity-requires c κs = search needs
+try-window-requires-2 : tie.Need-try-window-requires-2 Inv-loop μ-loop
+try-window-requires-2 c κs = c .before .before .before .loop .inv .0
+
+next-turn-requires : tie.Need-next-turn-requires Inv-loop μ-loop
+next-turn-requires c κs = search needs
 
 loop-less : tie.Need-loop-less Inv-loop μ-loop
 loop-less c = search needs
 
 loop-again : tie.Need-loop-again Inv-loop μ-loop
 loop-again c =
-    let a = c .before .before .before .before .before .before .args in
-    let l = c .before .before .before .loop in
-    let ok : answers (a .costs) (a .nodes) ≡ true = sym (c .before .before .before .before .before .answerable .ensures) ∙ not-false _ (c .before .before .before .before .if1 .left) in
-    let middle = l .low + (l .high - l .low) / 2 in
-    let held : c .before .capacity .result ≡ capacity (a .costs) (a .nodes) middle = c .before .capacity .ensures ∙ capacity-answer (a .costs) (a .nodes) middle ok in
+    let a = c .before .before .before .before .before .before .before .before .before .before .before .before .before .before .args in
+    let l = c .before .before .before .before .before .before .before .loop in
+    let middle = c .before .before .before .before .next-window .result in
+    let held : c .before .before .before .try-window2 .result .units ≡ capacity (a .costs) (a .nodes) middle = c .before .before .before .try-window2 .ensures ∙ capacity-answer (a .costs) (a .nodes) middle (l .inv .0) in
     let enough : a .size ≤ capacity (a .costs) (a .nodes) middle = omega arith in
-    (omega arith, omega arith, earliest-same (a .costs) (answered-is (a .costs) (a .nodes) ok .0) (a .nodes) (a .size) middle (l .high) enough (omega arith) ∙ l .inv .2, l .inv .3)
+    let within : middle ≤ l .high = omega arith in
+    (l .inv .0, omega arith, omega arith, earliest-same (a .costs) (answered-is (a .costs) (a .nodes) (l .inv .0) .0) (a .nodes) (a .size) middle (l .high) enough within ∙ l .inv .3, l .inv .4)
 
 add-low : tie.Need-add-low Inv-loop μ-loop
 add-low c = search needs
@@ -61,22 +77,20 @@ loop-less-2 c = search needs
 
 loop-again-2 : tie.Need-loop-again-2 Inv-loop μ-loop
 loop-again-2 c =
-    let a = c .before .before .before .before .before .before .args in
-    let l = c .before .before .before .loop in
-    let ok : answers (a .costs) (a .nodes) ≡ true = sym (c .before .before .before .before .before .answerable .ensures) ∙ not-false _ (c .before .before .before .before .if1 .left) in
-    let middle = l .low + (l .high - l .low) / 2 in
-    let held : c .before .capacity .result ≡ capacity (a .costs) (a .nodes) middle = c .before .capacity .ensures ∙ capacity-answer (a .costs) (a .nodes) middle ok in
+    let a = c .before .before .before .before .before .before .before .before .before .before .before .before .before .before .args in
+    let l = c .before .before .before .before .before .before .before .loop in
+    let middle = c .before .before .before .before .next-window .result in
+    let held : c .before .before .before .try-window2 .result .units ≡ capacity (a .costs) (a .nodes) middle = c .before .before .before .try-window2 .ensures ∙ capacity-answer (a .costs) (a .nodes) middle (l .inv .0) in
     let short : capacity (a .costs) (a .nodes) middle < a .size = omega arith in
-    (omega arith, omega arith, l .inv .2, λ v h. omega (arith, longer (a .costs) (answered-is (a .costs) (a .nodes) ok .0) (a .nodes) {w = v} {v = middle} (omega arith)))
+    (l .inv .0, omega arith, omega arith, l .inv .3, λ v h. omega (arith, longer (a .costs) (answered-is (a .costs) (a .nodes) (l .inv .0) .0) (a .nodes) {w = v} {v = middle} (omega arith)))
 
-returns-2 : tie.Need-returns-2 Inv-loop μ-loop
-returns-2 c =
-    let a = c .before .before .before .before .args in
+returns-3 : tie.Need-returns-3 Inv-loop μ-loop
+returns-3 c =
+    let a = c .before .before .before .before .before .before .before .before .args in
     let l = c .before .loop in
-    let ok : answers (a .costs) (a .nodes) ≡ true = sym (c .before .before .before .answerable .ensures) ∙ not-false _ (c .before .before .if1 .left) in
     let same : l .low ≡ l .high = omega arith in
-    sym (earliest-answer (a .costs) (a .nodes) (a .size) (a .window) ok ∙ sym (l .inv .2)
-    ∙ earliest-stays (a .costs) (answered-is (a .costs) (a .nodes) ok .0) (a .nodes) (a .size) (l .high) (rw same at (l .inv .3)))
+    sym (earliest-answer (a .costs) (a .nodes) (a .size) (a .window) (l .inv .0) ∙ sym (l .inv .3)
+    ∙ earliest-stays (a .costs) (answered-is (a .costs) (a .nodes) (l .inv .0) .0) (a .nodes) (a .size) (l .high) (rw same at (l .inv .4)))
 
 pub earliest-finish-spec : {M : Type 1} → statement M
 earliest-finish-spec =
@@ -86,13 +100,17 @@ earliest-finish-spec =
     μ-loop
     answerable-requires
     returns
+    try-window-requires
+    returns-2
+    setups-requires
     loop-holds
-    sub-middle
-    add-middle
-    capacity-requires
+    guess-requires
+    next-window-requires
+    try-window-requires-2
+    next-turn-requires
     loop-less
     loop-again
     add-low
     loop-less-2
     loop-again-2
-    returns-2)
+    returns-3)
