@@ -8,9 +8,9 @@ use native.Mathlib.Decide.{decLe}
 use native.Mathlib.Omega.{arith}
 use lib.ListN.{length, getD, take, drop, length-map, take-append-drop}
 use lib.Seq.{length-take-le}
-use Rattle.lists.specs.Laws.{All, Pairs, Differ, all-map, all-both, all-mem, all-image, pairs-map, pairs-image, pairs-across, mem-image, pigeon}
+use Rattle.lists.specs.Laws.{All, Pairs, Differ, all-map, all-nth, all-both, all-mem, all-image, pairs-map, pairs-image, pairs-across, mem-image, pigeon}
 use Rattle.keys.specs.declared.Key.{Key}
-use Rattle.keys.specs.Model.{noLater}
+use Rattle.keys.specs.Model.{noKey, noLater}
 use Rattle.keys.specs.Sorted.{Sorted, no-later-refl, no-later-prior, no-later-trans}
 use Rattle.booking.specs.Search.{keyAt}
 use Rattle.booking.specs.Best.{freeAt, Before}
@@ -27,12 +27,6 @@ sorted-late (k ∷ ks) zero x s h m =
     ⊎-elim (λ e. subst (λ (y : Key). noLater k y ≡ true) (sym e) (no-later-refl k)) (λ n. all-mem n (s .0) (λ y e p. subst (λ (z : Key). noLater k z ≡ true) (sym e) p)) (List·Memᴰ·cases-cons m)
 sorted-late (k ∷ ks) (suc i) x s h m = sorted-late ks i x (s .1) (omega arith) m
 
--- P of all is P at each place.
-pub all-at : (P : Key → Type 0) (ks : List Key) (i : ℕ) → All P ks → i < length ks → P (keyAt ks i)
-all-at P [] i h l = absurd (omega arith)
-all-at P (k ∷ ks) zero h l = h .0
-all-at P (k ∷ ks) (suc i) h l = all-at P ks i (h .1) (omega arith)
-
 -- In a list in order, what stands at or before a place is no later than what stands there.
 pub sorted-early : (ks : List Key) (i : ℕ) → Sorted ks → i < length ks → All (λ (x : Key). x .time ≤ keyAt ks i .time) (take (suc i) ks)
 sorted-early [] i s h = absurd (omega arith)
@@ -42,7 +36,7 @@ sorted-early (k ∷ ks) zero s h = (omega arith, take-none ks)
     take-none [] = tt
     take-none (l ∷ ls) = tt
 sorted-early (k ∷ ks) (suc i) s h =
-    (no-later-time k (keyAt ks i) (all-at (λ (x : Key). noLater k x ≡ true) ks i (s .0) (omega arith)), sorted-early ks i (s .1) (omega arith))
+    (no-later-time k (keyAt ks i) (all-nth noKey (λ (x : Key). noLater k x ≡ true) ks i (s .0) (omega arith)), sorted-early ks i (s .1) (omega arith))
 
 -- Different nodes map to different keys.
 keys-differ : (free ks : List ℕ) → Differ ks → Pairs (λ (x y : Key). x ≡ y → ⊥) (map (keyOf free) ks)

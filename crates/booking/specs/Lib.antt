@@ -7,3 +7,4 @@ pub mod Choose
 pub mod Booked
 pub mod Only
 pub mod Steps
+pub mod Again

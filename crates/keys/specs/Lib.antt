@@ -2,3 +2,4 @@
 pub mod Model
 pub mod Sorted
 pub mod Insert
+pub mod Join

@@ -40,6 +40,10 @@ pub all-mem : {A : Type 0} {P : A → Type 0} {x : A} {xs : List A} → List·Me
 all-mem (List·Memᴰ·head {x = y} e) h f = f y e (h .0)
 all-mem (List·Memᴰ·tail m) h f = all-mem m (h .1) f
 
+-- What holds of all holds of a member.
+pub at-member : {A : Type 0} (P : A → Type 0) {x : A} {xs : List A} → List·Memᴰ x xs → All P xs → P x
+at-member P m h = all-mem {P = P} m h (λ y e p. subst P (sym e) p)
+
 pub all-of : {A : Type 0} {P : A → Type 0} (xs : List A) → ((x : A) → List·Memᴰ x xs → P x) → All P xs
 all-of [] f = tt
 all-of (x ∷ xs) f = (f x (List·Memᴰ·head refl), all-of xs (λ y m. f y (List·Memᴰ·tail m)))
@@ -80,6 +84,22 @@ pub pairs-across : {A : Type 0} (R : A → A → Type 0) (xs ys : List A) → Pa
 pairs-across R [] ys h = tt
 pairs-across R (x ∷ xs) ys h = (all-append (R x) xs ys (h .0) .1, pairs-across R xs ys (h .1))
 
+-- R of each pair of two lists put together
+pub pairs-parts : {A : Type 0} (R : A → A → Type 0) (xs ys : List A) → Pairs R (xs ++ ys) → Pairs R xs × Pairs R ys
+pairs-parts R [] ys h = (tt, h)
+pairs-parts R (x ∷ xs) ys h = let r = pairs-parts R xs ys (h .1) in ((all-append (R x) xs ys (h .0) .0, r .0), r .1)
+
+pub pairs-join : {A : Type 0} (R : A → A → Type 0) (xs ys : List A) → Pairs R xs → Pairs R ys → All (λ (x : A). All (R x) ys) xs → Pairs R (xs ++ ys)
+pairs-join R [] ys h k a = k
+pairs-join R (x ∷ xs) ys h k a = (all-join (R x) xs ys (h .0) (a .0), pairs-join R xs ys (h .1) k (a .1))
+
+-- two relations of each pair, with what holds of each element
+pub pairs-both : {A : Type 0} {P : A → Type 0} {R S T : A → A → Type 0} → ((x y : A) → P x → P y → R x y → S x y → T x y) → (xs : List A) → All P xs → Pairs R xs → Pairs S xs → Pairs T xs
+pairs-both f [] p h k = tt
+pairs-both {A} {P} {R} {S} {T} f (x ∷ xs) p h k =
+    let both : All (λ (y : A). R x y × S x y) xs = all-both (λ y a b. (a, b)) xs (h .0) (k .0) in
+    (all-both (λ y q a. f x y (p .0) q (a .0) (a .1)) xs (p .1) both, pairs-both f xs (p .1) (h .1) (k .1))
+
 -- R of each pair
 pub pairs-map : {A : Type 0} {R S : A → A → Type 0} → ((x y : A) → R x y → S x y) → (xs : List A) → Pairs R xs → Pairs S xs
 pairs-map f [] h = tt
@@ -93,6 +113,21 @@ pairs-image R f (x ∷ xs) h = (all-image (R (f x)) f xs (h .0), pairs-image R f
 pub mem-image : {A B : Type 0} (f : A → B) {x : A} {xs : List A} → List·Memᴰ x xs → List·Memᴰ (f x) (map f xs)
 mem-image f (List·Memᴰ·head e) = List·Memᴰ·head (ap f e)
 mem-image f (List·Memᴰ·tail m) = List·Memᴰ·tail (mem-image f m)
+
+-- A member of the first list is one of both put together.
+pub mem-left : {A : Type 0} {x : A} {xs : List A} (ys : List A) → List·Memᴰ x xs → List·Memᴰ x (xs ++ ys)
+mem-left ys (List·Memᴰ·head e) = List·Memᴰ·head e
+mem-left ys (List·Memᴰ·tail m) = List·Memᴰ·tail (mem-left ys m)
+
+-- So is a member of the second.
+pub mem-right : {A : Type 0} {x : A} (xs : List A) {ys : List A} → List·Memᴰ x ys → List·Memᴰ x (xs ++ ys)
+mem-right [] m = m
+mem-right (y ∷ xs) m = List·Memᴰ·tail (mem-right xs m)
+
+-- The images of two lists put together are the images of both.
+pub map-join : {A B : Type 0} (f : A → B) (xs ys : List A) → map f (xs ++ ys) ≡ map f xs ++ map f ys
+map-join f [] ys = refl
+map-join f (x ∷ xs) ys = ap (λ l. f x ∷ l) (map-join f xs ys)
 
 module _ {A : Type 0} where
   -- a list without one of its places

@@ -4,5 +4,6 @@ pub mod Order
 pub mod Chain
 pub mod Rows
 pub mod Walk
+pub mod Ranks
 pub mod Booked
 pub mod Plan

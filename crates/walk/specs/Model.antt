@@ -1,4 +1,5 @@
 -- The deadline walk, in the words and the order of document 01. Everything here is a definition; nothing is assumed.
+pub use Rattle.limits.specs.Model.{Between}
 use Prim.Native.Nat.{ℕ, zero, suc, _+_, _-_, _≤_, _<_, max}
 use mathlib.Core.Path.{_≡_}
 use mathlib.Core.List.{List, [], _∷_, _++_, map}
@@ -63,9 +64,6 @@ pub record JobSized (j : Job) : Type 0 where
   pub shares : length (j .booking .shares) ≡ 64
 
 -- ---- Spans of ticks
-
-abbrev pub Between : ℕ → ℕ → ℕ → Type 0
-Between a x b = (a ≤ x) × (x ≤ b)
 
 -- a span of ticks includes its first and excludes its last
 abbrev pub Includes : ℕ → ℕ → ℕ → Type 0
