@@ -8,9 +8,11 @@ use Rattle.shares.specs.Model.{finish, sum, first, left, capacity, cut, greedy,
 use Rattle.keys.specs.Model.{noLater, insertKey, sortOnto}
 use Rattle.booking.specs.Best.{units}
 use Rattle.booking.specs.Model.{nodeKeys, ranked, search, bookingOf, bookedAt, bookOf}
+use Rattle.soundness.specs.Model.{noneOf, allDiffer}
 use Rattle.planner.specs.declared.Farm.{Farm}
-use Rattle.planner.specs.Model.{allAtMost, allAtLeast, costsWithin, chunksFrom, spansOfAll, afters, waitingOf, keysBy, plan, booksAll, fitAll}
-use Rattle.planner.specs.Passes.{figuresWithin, jobWithin, jobKept, jobsPass, noneOf, allDiffer, passesOf}
+use Rattle.limits.specs.Model.{allAtMost, allAtLeast, costsWithin}
+use Rattle.planner.specs.Model.{chunksFrom, spansOfAll, afters, waitingOf, keysBy, plan, booksAll, fitAll}
+use Rattle.planner.specs.Passes.{figuresWithin, jobWithin, jobKept, jobsPass, passesOf}
 use Rattle.planner.specs.Calls.{Said, granted, refused, openFarm, ofNumber, offerAsked, offerSaid, offerFarm}
 
 -- an offer of a job

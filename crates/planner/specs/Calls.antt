@@ -41,12 +41,16 @@ numberOf question.Size = 5
 numberOf question.Deadline = 6
 numberOf question.Queue = 7
 numberOf question.Walk = 8
+numberOf question.Time = 9
+numberOf question.Lines = 10
 numberOf question.Farm = 11
 
 -- the paper's number and values for each case of an answer
 abbrev pub said : Answer → Said
 said (answer.Open n s) = granted (n ∷ s ∷ [])
 said (answer.Yes j s t k) = granted (j ∷ s ∷ t ∷ k ∷ [])
+said (answer.Clock t n) = granted (t ∷ n ∷ [])
+said (answer.Shown n) = granted (n ∷ [])
 said (answer.Account s h c) = granted (s ∷ h ∷ c ∷ [])
 said (answer.No q) = refused (numberOf q)
 

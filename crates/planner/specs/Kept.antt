@@ -26,10 +26,11 @@ use Rattle.walk.specs.declared.Chunk.{Chunk}
 use Rattle.planner.specs.Model.{greatest, between, allAtMost, costsWithin, emptyJob, chunksFrom, linesOf, spansOf, spansOfAll, JobSized, Sized, after, afters, waitingOf, busyOf, termsOf, requestOf, step, busyAfter, plan, Apart, Between}
 use Rattle.planner.specs.Passes.{passesOf, JobWithin, JobSound, Passes}
 use Rattle.planner.specs.Calls.{unopened, openedWith, showsWithin, openFarm, newJob, queueOf, planned, accepts, withPlan, offerAsked, offerFarm}
-use Rattle.planner.specs.Rows.{between-is}
 use Rattle.walk.specs.Chain.{Fits, Chain, chain-job, Proper, free-other, afters-length, chain-follows, chain-apart, job-proper}
 use Rattle.walk.specs.Order.{by-deadline-perm}
-use Rattle.planner.specs.Sound.{Figures, Kept, says-costs, says-at-most, spans-each, spans-all, Behind, Paired, fits-behind, passes-iff}
+use Rattle.limits.specs.Says.{says-costs, says-at-most, between-is}
+use Rattle.soundness.specs.Sweep.{spans-each, spans-all}
+use Rattle.planner.specs.Sound.{Figures, Kept, Behind, Paired, fits-behind, passes-iff}
 use Rattle.planner.specs.Asked.{and-left, and-right, passes-figures, passes-jobs}
 use Rattle.walk.specs.Walk.{best-sends}
 use Rattle.walk.specs.Booked.{BestAll, walk-best}
@@ -38,7 +39,7 @@ use Rattle.planner.specs.Offer.{walk-ready, Granted, asked-granted}
 
 -- ---- An opening
 
-all-replicate : {A : Type 0} (P : A → Type 0) (n : ℕ) (x : A) → P x → All P (replicate n x)
+pub all-replicate : {A : Type 0} (P : A → Type 0) (n : ℕ) (x : A) → P x → All P (replicate n x)
 all-replicate P zero x h = tt
 all-replicate P (suc n) x h = (h, all-replicate P n x h)
 
@@ -88,7 +89,7 @@ opened-passes n c al a b d =
       sound = record { jobs = tt; apart = tt; differ = tt };
     }
 
-opens-with : (n : ℕ) (c : Costs) (al : List ℕ) → (between 1 n 64 && costsWithin c && showsWithin al) ≡ true → openFarm n c al ≡ openedWith n c al
+pub opens-with : (n : ℕ) (c : Costs) (al : List ℕ) → (between 1 n 64 && costsWithin c && showsWithin al) ≡ true → openFarm n c al ≡ openedWith n c al
 unfolding openFarm
 opens-with n c al e = ap (λ (b : Bool). cond b (openedWith n c al) unopened) e
 
@@ -216,7 +217,7 @@ module _ (f : Farm) (s z d : ℕ) (sized : Sized f) (g : Granted f s z d) (yes�
       plan-length (termsOf f) (busyOf f) (queueOf f s z d) ∙ sym (perm-length (by-deadline-perm (waitingOf f ++ newJob f s z d ∷ []))) ∙ length-append (waitingOf f) (newJob f s z d ∷ [])
       ∙ ap (λ (x : ℕ). x + 1) (length-take-le (f .waiting) (f .jobs) (omega (arith, sized .jobs, g .waiting)))
 
-  waiting-planned : waitingOf (withPlan f (planned f s z d)) ≡ planned f s z d
+  pub waiting-planned : waitingOf (withPlan f (planned f s z d)) ≡ planned f s z d
   waiting-planned = take-at (planned f s z d) (drop (f .waiting + 1) (f .jobs)) (f .waiting + 1) plan-count
 
   -- An accepted offer hands back a farm with its arrays.

@@ -27,7 +27,7 @@ use Rattle.planner.specs.declared.Answer.the-variants as answer
 use Rattle.planner.specs.Model.{greatest, between, emptyJob, noJob, linesOf, waitingOf, termsOf, busyOf, byDeadline, requestOf, step, busyAfter, plan, booksAll, Between}
 use Rattle.planner.specs.Passes.{passesOf}
 use Rattle.walk.specs.Plan.{plan-length, plan-sends}
-use Rattle.planner.specs.Rows.{between-is}
+use Rattle.limits.specs.Says.{between-is}
 use Rattle.walk.specs.Order.{by-deadline-perm}
 use Rattle.planner.specs.Asked.{and-left, and-right, passes-figures, passes-jobs}
 use Rattle.walk.specs.Walk.{Sends, Ready, best-sends}

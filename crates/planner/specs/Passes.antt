@@ -1,18 +1,18 @@
 -- Question 11: is the farm opened, with each figure within its limits and its waiting bookings sound?
 -- First the test that runs, then what the paper asks. `passes-iff` in Sound.antt says that they are the same.
-use Prim.Native.Nat.{ℕ, zero, suc, _≤_, _<_}
+pub use Rattle.limits.specs.Model.{CostsWithin}
+unfoldable pub use Rattle.soundness.specs.Model.{noneOf, allDiffer}
+use Prim.Native.Nat.{ℕ, _≤_}
 use mathlib.Core.Path.{_≡_}
 use mathlib.Core.List.{List, [], _∷_, map}
-use mathlib.Core.Bool.{Bool, true, false, _&&_, not}
-use lib.Dec.{leb, ltb, eqb}
+use mathlib.Core.Bool.{Bool, true, _&&_}
+use lib.Dec.{leb, eqb}
 use lib.ListN.{take}
 use Rattle.lists.specs.Laws.{All, Pairs, Differ}
-use Rattle.shares.specs.declared.Costs.{Costs}
 use Rattle.shares.specs.Model.{finish, sum}
 use Rattle.shares.specs.Lists.{Positive}
 use Rattle.booking.specs.Best.{freeAt, chosen, units}
 use Rattle.walk.specs.declared.Job.{Job}
-use Rattle.walk.specs.declared.Busy.{Busy}
 use Rattle.planner.specs.declared.Farm.{Farm}
 use Rattle.planner.specs.Model.{greatest, between, allAtMost, allAtLeast, costsWithin, spansOfAll, waitingOf, busyOf, byStart, fitAll, Between, Apart}
 
@@ -56,15 +56,6 @@ unfoldable pub jobsPass : Farm → List Job → Bool
 jobsPass f [] = true
 jobsPass f (j ∷ js) = jobWithin f j && jobKept f j && jobsPass f js
 
--- x is none of a list
-unfoldable pub noneOf : ℕ → List ℕ → Bool
-noneOf x [] = true
-noneOf x (y ∷ ys) = not (eqb x y) && noneOf x ys
-
-unfoldable pub allDiffer : List ℕ → Bool
-allDiffer [] = true
-allDiffer (x ∷ xs) = noneOf x xs && allDiffer xs
-
 -- the answer to question 11
 unfoldable pub passesOf : Farm → Bool
 passesOf f =
@@ -75,12 +66,6 @@ passesOf f =
     && fitAll (busyOf f) (spansOfAll (f .costs) (byStart (waitingOf f)))
 
 -- ---- What the paper asks
-
-pub record CostsWithin (c : Costs) : Type 0 where
-  pub send : Between 1 (c .send) 10_000
-  pub compute : Between 1 (c .compute) 1_000_000
-  pub link : c .link ≤ 1_000_000
-  pub node : c .node ≤ 1_000_000
 
 -- a waiting job's figures are within their limits
 pub record JobWithin (f : Farm) (j : Job) : Type 0 where

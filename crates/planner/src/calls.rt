@@ -15,12 +15,12 @@ use crate::Farm;
 use crate::Question;
 use crate::Reply;
 use crate::passing::passes;
-use crate::table::all_at_most;
-use crate::table::between;
-use crate::table::costs_within;
 use crate::table::deadline_within;
 use crate::table::place_left;
 use booking::Booking;
+use limits::all_at_most;
+use limits::between;
+use limits::costs_within;
 use shares::Costs;
 use walk::Busy;
 use walk::Job;
@@ -180,19 +180,26 @@ impl Farm {
     pub fn account(self, show: u64) -> Reply
         ensures { λ r. ⌜ Replies r (accountSaid self show) self ⌝ }
     {
+        Reply {
+            answer: self.account_answer(show),
+            farm: self,
+        }
+    }
+
+    // The answer of an account by itself, for a caller that keeps the farm: questions 11 and 4 in that order.
+    pub fn account_answer(self, show: u64) -> Answer
+        ensures { λ r. ⌜ said r ≡ accountSaid self show ⌝ }
+    {
         if !passes(self) {
-            return refused(self, Question::Farm);
+            return Answer::No(Question::Farm);
         }
         let shows = self.shows;
         if !between(1, show, shows as u64) {
-            return refused(self, Question::Show);
+            return Answer::No(Question::Show);
         }
         let held = self.held;
         let allowances = self.allowances;
-        Reply {
-            answer: columns(held, allowances, show),
-            farm: self,
-        }
+        columns(held, allowances, show)
     }
 }
 
@@ -283,7 +290,7 @@ fn accepted(farm: Farm, jobs: [Job; 128]) -> Reply
 }
 
 // A refusal hands back the farm as it was.
-fn refused(farm: Farm, question: Question) -> Reply
+pub fn refused(farm: Farm, question: Question) -> Reply
     ensures { λ r. ⌜ r ≡ record { answer = Answer.No question; farm = farm } ⌝ }
 {
     Reply {

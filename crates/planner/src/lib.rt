@@ -1,10 +1,12 @@
-// The farm: opening, offers and accounts. Each call takes the farm as a value and hands the next one back.
-// What each call means is in specs/Model.antt.
+// The farm: opening, offers, clock moves, showing and accounts. Each call takes the farm as a value and hands the next
+// one back. What each call means is in specs/Calls.antt and specs/Clock.antt.
 mod calls;
+mod clock;
 mod passing;
 mod table;
 
 use shares::Costs;
+use walk::Chunk;
 use walk::Job;
 
 // The farm. The first `shows` allowances and held ticks, the first `nodes` free times and the first `waiting` jobs
@@ -34,6 +36,8 @@ pub enum Question {
     Deadline,
     Queue,
     Walk,
+    Time,
+    Lines,
     Farm,
 }
 
@@ -49,6 +53,13 @@ pub enum Answer {
         finish: u64,
         nodes: u64,
     },
+    Clock {
+        time: u64,
+        lines: u64,
+    },
+    Shown {
+        lines: u64,
+    },
     Account {
         show: u64,
         held: u64,
@@ -61,4 +72,10 @@ pub enum Answer {
 pub struct Reply {
     pub answer: Answer,
     pub farm: Farm,
+}
+
+// A reply, with the lent memory by value.
+pub struct Timetable {
+    pub reply: Reply,
+    pub lines: [Chunk; 1024],
 }

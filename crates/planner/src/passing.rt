@@ -1,61 +1,20 @@
 // Question 11: whether a farm is opened, each of its figures is within its limits, and its waiting bookings are sound.
-// Nothing is taken for granted of the farm: what could make a sum wrap is tested before the sum is made.
+// Nothing is taken for granted of the farm.
 ghost use mathlib.Core.Path.{_≡_};
-ghost use mathlib.Core.Bool.{_&&_};
-ghost use Prim.Native.Nat.{_+_, _*_, _-_, _≤_, _<_};
-ghost use lib.ListN.{length, take};
-ghost use Rattle.lists.specs.Laws.{All};
-ghost use Rattle.shares.specs.Model.{sendEnd};
-ghost use Rattle.booking.specs.Best.{units};
-ghost use Rattle.planner.specs.Model.{keysBy, startOf, byStart, spansOfAll, inOrder, fitAll};
-ghost use Rattle.planner.specs.Passes.{noneOf, allDiffer, passesOf, CostsWithin};
-ghost use Rattle.planner.specs.Tests.{countsWithin, timesWithin, nodesKnown, numbersOf, sharesKept, headWithin, jobPasses, allPass, Usable, Calm, Inside, Swept};
+ghost use Rattle.planner.specs.Passes.{passesOf};
+ghost use Rattle.planner.specs.Tests.{countsWithin, timesWithin};
 use crate::Farm;
-use crate::table::all_at_most;
-use crate::table::and;
-use crate::table::at_most;
-use crate::table::between;
-use crate::table::costs_within;
-use crate::table::least;
-use keys::Key;
-use shares::Costs;
+use limits::all_at_most;
+use limits::and;
+use limits::at_most;
+use limits::between;
+use limits::costs_within;
+use limits::wide;
+use soundness::Figures;
+use soundness::all_differ;
+use soundness::in_turn;
+use soundness::surveyed;
 use walk::Busy;
-use walk::Job;
-
-// What each waiting job is held against.
-pub struct Figures {
-    pub nodes: usize,
-    pub shows: usize,
-    pub used: u64,
-    pub clock: u64,
-    pub costs: Costs,
-}
-
-// Whether a job's chunks fit behind what came before them, and the free times after them.
-pub struct Fit {
-    pub fits: bool,
-    pub busy: Busy,
-}
-
-// ---- Widths
-
-fn wide(x: usize) -> u64
-    ensures { λ r. ⌜ r ≡ x ⌝ }
-{
-    x as u64
-}
-
-fn wide32(x: u32) -> u64
-    ensures { λ r. ⌜ (r ≡ x) × (r < 4294967296) ⌝ }
-{
-    x as u64
-}
-
-fn wide8(x: u8) -> usize
-    ensures { λ r. ⌜ r ≡ x ⌝ }
-{
-    x as usize
-}
 
 // ---- The farm's figures
 
@@ -93,265 +52,6 @@ fn times_within(farm: Farm) -> bool
     )
 }
 
-// ---- A job by itself
-
-// Whether the first `count` nodes are numbers from 1 to `limit`.
-fn nodes_known(nodes: [u8; 64], count: usize, limit: usize) -> bool
-    ensures { λ r. ⌜ r ≡ nodesKnown limit (take count nodes) ⌝ }
-{
-    let n = least(count, 64);
-    let mut i = 0;
-    while i < n {
-        let node = wide8(nodes[i]);
-        if node < 1 {
-            return false;
-        }
-        if limit < node {
-            return false;
-        }
-        i += 1;
-    }
-    true
-}
-
-fn job_within(figures: Figures, job: Job) -> bool
-    ensures { λ r. ⌜ r ≡ headWithin figures job ⌝ }
-{
-    let b = job.booking;
-    let nodes = b.nodes;
-    let named = and(
-        between(1, job.number, figures.used),
-        between(1, job.show, wide(figures.shows)),
-    );
-    let sized = and(named, between(1, wide32(job.size), 1_000_000));
-    let timed = and(
-        and(sized, at_most(job.deadline, 1_000_000_000_000)),
-        at_most(b.start, 1_000_000_000_000),
-    );
-    and(
-        and(timed, between(1, wide(b.count), 64)),
-        nodes_known(nodes, b.count, figures.nodes),
-    )
-}
-
-// What `units` units cost at `each` ticks a unit, with the setup. The one product: that it cannot wrap is shown here.
-fn cost(setup: u64, units: u64, each: u64) -> u64
-    requires { ⌜ (setup ≤ 1000000) × (units < 4294967296) × (each ≤ 1000000) ⌝ }
-    ensures { λ r. ⌜ (r ≡ setup + units * each) × (r ≤ 4294968000000000) ⌝ }
-{
-    setup + units * each
-}
-
-// When the send that begins at `from` has ended.
-fn send_end(costs: Costs, from: u64, units: u64) -> u64
-    requires { ⌜ CostsWithin costs × (from ≤ 300000000000000000) × (units < 4294967296) ⌝ }
-    ensures { λ r. ⌜ (r ≡ sendEnd costs from units) × (r ≤ from + 4294968000000000) ⌝ }
-{
-    from + cost(costs.link, units, costs.send)
-}
-
-// When the chunk whose send has ended at `sent` has finished.
-fn chunk_end(costs: Costs, sent: u64, units: u64) -> u64
-    requires { ⌜ CostsWithin costs × (sent ≤ 400000000000000000) × (units < 4294967296) ⌝ }
-    ensures { λ r. ⌜ r ≡ sent + (costs .node + units * costs .compute) ⌝ }
-{
-    sent + cost(costs.node, units, costs.compute)
-}
-
-// Whether the shares are at least 1 each and add up to the size, and each chunk finishes by the deadline.
-fn shares_kept(costs: Costs, job: Job) -> bool
-    requires { ⌜ Calm costs job ⌝ }
-    ensures { λ r. ⌜ r ≡ sharesKept costs (job .size) (job .deadline) 0 (job .booking .start) (units (job .booking)) ⌝ }
-{
-    let b = job.booking;
-    let mut total: u64 = 0;
-    let mut from = b.start;
-    let mut i = 0;
-    while i < b.count {
-        let units = wide32(b.shares[i]);
-        let sent = send_end(costs, from, units);
-        if units < 1 {
-            return false;
-        }
-        if job.deadline < chunk_end(costs, sent, units) {
-            return false;
-        }
-        total += units;
-        from = sent;
-        i += 1;
-    }
-    and(total == wide32(job.size), from <= job.deadline)
-}
-
-fn job_passes(figures: Figures, job: Job) -> bool
-    requires { ⌜ Usable figures ⌝ }
-    ensures { λ r. ⌜ r ≡ jobPasses figures job ⌝ }
-{
-    if !job_within(figures, job) {
-        return false;
-    }
-    let b = job.booking;
-    if b.start < figures.clock {
-        return false;
-    }
-    shares_kept(figures.costs, job)
-}
-
-fn jobs_pass(figures: Figures, jobs: [Job; 128], count: usize) -> bool
-    requires { ⌜ Usable figures × (count ≤ 128) ⌝ }
-    ensures { λ r. ⌜ r ≡ allPass figures (take count jobs) ⌝ }
-{
-    let mut i = 0;
-    while i < count {
-        if !job_passes(figures, jobs[i]) {
-            return false;
-        }
-        i += 1;
-    }
-    true
-}
-
-// ---- The jobs' numbers
-
-fn numbers_of(jobs: [Job; 128], count: usize) -> [u64; 128]
-    requires { ⌜ count ≤ 128 ⌝ }
-    ensures { λ r. ⌜ (length r ≡ 128) × (take count r ≡ numbersOf (take count jobs)) ⌝ }
-{
-    let mut out = [0u64; 128];
-    let mut i = 0;
-    while i < count {
-        let job = jobs[i];
-        out[i] = job.number;
-        i += 1;
-    }
-    out
-}
-
-fn none_of(x: u64, xs: &[u64]) -> bool
-    ensures { λ r. ⌜ r ≡ noneOf x (now (xs .entry)) ⌝ }
-{
-    let mut i = 0;
-    while i < xs.len() {
-        if x == xs[i] {
-            return false;
-        }
-        i += 1;
-    }
-    true
-}
-
-fn all_differ(xs: &[u64]) -> bool
-    ensures { λ r. ⌜ r ≡ allDiffer (now (xs .entry)) ⌝ }
-{
-    let n = xs.len();
-    let mut i = 0;
-    while i < n {
-        let next = i + 1;
-        if !none_of(xs[i], &xs[next..n]) {
-            return false;
-        }
-        i = next;
-    }
-    true
-}
-
-// ---- The jobs behind one another
-
-// Where the free time of a node stands.
-fn place_of(node: u8) -> usize
-    ensures { λ r. ⌜ r ≡ node - 1 ⌝ }
-{
-    if node < 1 {
-        return 0;
-    }
-    (node - 1) as usize
-}
-
-// The chunks of a job, each behind what those before it have left.
-fn job_fits(costs: Costs, busy: Busy, job: Job) -> Fit
-    requires { ⌜ Calm costs job ⌝ }
-    ensures { λ r. ⌜ Swept costs busy job r ⌝ }
-{
-    let b = job.booking;
-    let mut link = busy.link;
-    let mut free = busy.free;
-    let mut from = b.start;
-    let mut i = 0;
-    while i < b.count {
-        let place = place_of(b.nodes[i]);
-        if from < link {
-            return Fit { fits: false, busy };
-        }
-        if b.start < free[place] {
-            return Fit { fits: false, busy };
-        }
-        let units = wide32(b.shares[i]);
-        let sent = send_end(costs, from, units);
-        let finish = chunk_end(costs, sent, units);
-        free[place] = finish;
-        link = sent;
-        from = sent;
-        i += 1;
-    }
-    Fit {
-        fits: true,
-        busy: Busy { link, free },
-    }
-}
-
-fn start_keys(jobs: [Job; 128], count: usize) -> [Key; 128]
-    requires { ⌜ count ≤ 128 ⌝ }
-    ensures { λ r. ⌜ (length r ≡ 128) × (take count r ≡ keysBy startOf 0 (take count jobs)) ⌝ }
-{
-    let mut out = [Key {
-        time: 0,
-        number: 0,
-        place: 0,
-    }; 128];
-    let mut i = 0;
-    while i < count {
-        let job = jobs[i];
-        let b = job.booking;
-        out[i] = Key {
-            time: b.start,
-            number: job.number,
-            place: i,
-        };
-        i += 1;
-    }
-    out
-}
-
-// The jobs in the order of the keys, each behind those before it.
-fn jobs_fit(costs: Costs, busy: Busy, jobs: [Job; 128], keys: [Key; 128], count: usize) -> bool
-    requires { ⌜ (count ≤ 128) × All (Calm costs) (take count jobs) × All (Inside count) (take count keys) ⌝ }
-    ensures { λ r. ⌜ r ≡ fitAll busy (spansOfAll costs (inOrder (take count jobs) (take count keys))) ⌝ }
-{
-    let mut now_busy = busy;
-    let mut i = 0;
-    while i < count {
-        let key = keys[i];
-        let place = key.place;
-        let fit = job_fits(costs, now_busy, jobs[place]);
-        if !fit.fits {
-            return false;
-        }
-        now_busy = fit.busy;
-        i += 1;
-    }
-    true
-}
-
-// The jobs by their starts, one after the other. They mostly stand in that order already.
-fn in_turn(costs: Costs, busy: Busy, jobs: [Job; 128], count: usize) -> bool
-    requires { ⌜ (count ≤ 128) × All (Calm costs) (take count jobs) ⌝ }
-    ensures { λ r. ⌜ r ≡ fitAll busy (spansOfAll costs (byStart (take count jobs))) ⌝ }
-{
-    let keys = start_keys(jobs, count);
-    let order = keys::sorted(keys, count);
-    jobs_fit(costs, busy, jobs, order, count)
-}
-
 // The answer to question 11.
 pub fn passes(farm: Farm) -> bool
     ensures { λ r. ⌜ r ≡ passesOf farm ⌝ }
@@ -369,17 +69,19 @@ pub fn passes(farm: Farm) -> bool
     };
     let jobs = farm.jobs;
     let n = farm.waiting;
-    if !jobs_pass(figures, jobs, n) {
+    let survey = surveyed(figures, jobs, n);
+    if !survey.passes {
         return false;
     }
-    let numbers = numbers_of(jobs, n);
+    let numbers = survey.numbers;
     if !all_differ(&numbers[0..n]) {
         return false;
     }
+    let keys = survey.keys;
     let free = farm.free;
     let busy = Busy {
         link: farm.link,
         free,
     };
-    in_turn(costs, busy, jobs, n)
+    in_turn(costs, busy, jobs, keys, n)
 }

@@ -1,70 +1,8 @@
-// The limits of document 01's table, and the tests that they are made of.
+// The limits of document 01's table that an offer is held against.
 ghost use mathlib.Core.Bool.{_&&_};
 ghost use mathlib.Core.Path.{_≡_};
-ghost use Prim.Native.Nat.{min};
 ghost use lib.Dec.{leb, ltb};
-ghost use lib.ListN.{take};
-ghost use Rattle.planner.specs.Model.{between, allAtMost, costsWithin, greatest};
-use shares::Costs;
-
-pub fn and(a: bool, b: bool) -> bool
-    ensures { λ r. ⌜ r ≡ (a && b) ⌝ }
-{
-    if a {
-        return b;
-    }
-    false
-}
-
-pub fn at_most(x: u64, limit: u64) -> bool
-    ensures { λ r. ⌜ r ≡ leb x limit ⌝ }
-{
-    x <= limit
-}
-
-pub fn between(low: u64, x: u64, high: u64) -> bool
-    ensures { λ r. ⌜ r ≡ between low x high ⌝ }
-{
-    and(at_most(low, x), at_most(x, high))
-}
-
-pub fn least(a: usize, b: usize) -> usize
-    ensures { λ r. ⌜ r ≡ min a b ⌝ }
-{
-    if a < b {
-        return a;
-    }
-    b
-}
-
-// Whether the first `count` numbers are at most `limit`; a count above the length is taken for the length.
-pub fn all_at_most(xs: &[u64], count: usize, limit: u64) -> bool
-    ensures { λ r. ⌜ r ≡ allAtMost limit (take count (now (xs .entry))) ⌝ }
-{
-    let n = least(count, xs.len());
-    let mut i = 0;
-    while i < n {
-        if limit < xs[i] {
-            return false;
-        }
-        i += 1;
-    }
-    true
-}
-
-// Whether all four costs are within the table.
-pub fn costs_within(costs: Costs) -> bool
-    ensures { λ r. ⌜ r ≡ costsWithin costs ⌝ }
-{
-    let units = and(
-        between(1, costs.send, 10_000),
-        between(1, costs.compute, 1_000_000),
-    );
-    and(
-        and(units, at_most(costs.link, 1_000_000)),
-        at_most(costs.node, 1_000_000),
-    )
-}
+ghost use Rattle.planner.specs.Model.{greatest};
 
 // Whether a deadline is after the clock and within the time range.
 pub fn deadline_within(clock: u64, deadline: u64) -> bool

@@ -8,7 +8,7 @@ use lib.Seq.{take-length}
 use borrow.Author.Tests.{not-true, not-false}
 use Rattle.planner.specs.Model.{between, costsWithin, allAtMost, greatest}
 use Rattle.planner.specs.Calls.{showsWithin}
-use Rattle.planner.specs.Rows.{between-is}
+use Rattle.limits.specs.Says.{between-is}
 use Rattle.planner.specs.Opening.{no-nodes, no-costs, no-shows, opens}
 use borrow.Author.Needs.{needs}
 use Rattle.planner.proofs.Farm.open.Statement.{statement}

@@ -2,7 +2,8 @@
 use mathlib.Core.Path.{ap, _∙_}
 use Prim.Native.Nat.{ℕ}
 use lib.Dec.{leb}
-use Rattle.planner.specs.Tests.{timesWithin, both}
+use Rattle.limits.specs.Tests.{both}
+use Rattle.planner.specs.Tests.{timesWithin}
 use borrow.Author.Needs.{needs}
 use Rattle.planner.proofs.passing.times_within.Statement.{statement}
 use Rattle.planner.proofs.passing.times_within.Tie as tie

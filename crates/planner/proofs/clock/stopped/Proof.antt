@@ -1,0 +1,15 @@
+-- `clock::stopped` meets its contract.
+use mathlib.Core.Path.{ap}
+use borrow.Author.Needs.{needs}
+use Rattle.planner.specs.declared.Reply.{Reply}
+use Rattle.planner.proofs.clock.stopped.Statement.{statement}
+use Rattle.planner.proofs.clock.stopped.Tie as tie
+
+refused-requires : tie.Need-refused-requires
+refused-requires c κs = search needs
+
+returns : tie.Need-returns
+returns c = rw (c .refused .ensures)
+
+pub stopped-spec : {M : Type 1} → statement M
+stopped-spec = tie.close (tie.spec refused-requires returns)

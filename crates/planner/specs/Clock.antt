@@ -1,0 +1,83 @@
+-- A clock move and showing the timetable: what each answers, the farm that it hands back and what it leaves in the lent memory.
+-- Everything here is a definition; nothing is assumed. What begins by a time, lines and held ticks over lists of jobs are those of the crate timetable.
+pub use Rattle.timetable.specs.Model.{startsBy, startsAfter, holds}
+unfoldable pub use Rattle.timetable.specs.Model.{keep, linesOfAll, raised}
+use Prim.Native.Nat.{ℕ, _+_, _-_}
+use mathlib.Core.List.{List, [], _∷_, _++_}
+use mathlib.Core.Bool.{Bool, cond, not}
+use lib.Dec.{leb, eqb}
+use lib.ListN.{length, getD, drop, set}
+use Rattle.shares.specs.declared.Costs.{Costs}
+use Rattle.walk.specs.declared.Job.{Job}
+use Rattle.walk.specs.declared.Chunk.{Chunk}
+use Rattle.planner.specs.declared.Farm.{Farm}
+use Rattle.planner.specs.Model.{greatest, between, linesOf, Span, spansOfAll, afters, byStart, waitingOf, busyOf}
+use Rattle.planner.specs.Passes.{passesOf}
+use Rattle.planner.specs.Calls.{Said, granted, refused}
+
+-- ---- What a move begins
+
+-- a move to t begins every waiting job whose start is at most t, in order of start
+abbrev pub begun : Farm → ℕ → List Job
+begun f t = keep (startsBy t) (byStart (waitingOf f))
+
+-- the others wait on, in the order that they have
+abbrev pub left : Farm → ℕ → List Job
+left f t = keep (startsAfter t) (waitingOf f)
+
+-- the lines to be issued
+abbrev pub issued : Farm → ℕ → List Chunk
+issued f t = linesOfAll (f .costs) (begun f t)
+
+-- ---- A clock move
+
+-- the farm moved to t
+abbrev pub movedFarm : Farm → ℕ → Farm
+movedFarm f t = record {
+  opened = f .opened;
+  nodes = f .nodes;
+  costs = f .costs;
+  shows = f .shows;
+  allowances = f .allowances;
+  held = raised (f .held) (spansOfAll (f .costs) (begun f t));
+  clock = t;
+  link = afters (busyOf f) (issued f t) .link;
+  free = afters (busyOf f) (issued f t) .free;
+  used = f .used;
+  waiting = length (left f t);
+  jobs = left f t ++ drop (length (left f t)) (f .jobs);
+}
+
+-- questions 11, 9 and 10 in that order, put to a move to t that is lent n records: the number of the first answered no, or 0
+unfoldable pub moveAsked : Farm → ℕ → ℕ → ℕ
+moveAsked f t n = cond (passesOf f) (cond (between (f .clock) t greatest) (cond (leb (length (issued f t)) n) 0 10) 9) 11
+
+-- the time and the number of lines
+unfoldable pub moveSaid : Farm → ℕ → ℕ → Said
+moveSaid f t n = cond (eqb (moveAsked f t n) 0) (granted (t ∷ length (issued f t) ∷ [])) (refused (moveAsked f t n))
+
+-- the farm that it hands back
+unfoldable pub moveFarm : Farm → ℕ → ℕ → Farm
+moveFarm f t n = cond (eqb (moveAsked f t n) 0) (movedFarm f t) f
+
+-- the lent memory after it: the lines at its front, its former contents everywhere else
+unfoldable pub moveMemory : Farm → ℕ → List Chunk → List Chunk
+moveMemory f t m = cond (eqb (moveAsked f t (length m)) 0) (issued f t ++ drop (length (issued f t)) m) m
+
+-- ---- Showing the timetable
+
+-- the lines of every waiting booking, in order of start
+abbrev pub shown : Farm → List Chunk
+shown f = linesOfAll (f .costs) (byStart (waitingOf f))
+
+-- questions 11 and 10 in that order
+unfoldable pub shownAsked : Farm → ℕ → ℕ
+shownAsked f n = cond (passesOf f) (cond (leb (length (shown f)) n) 0 10) 11
+
+-- their count
+unfoldable pub shownSaid : Farm → ℕ → Said
+shownSaid f n = cond (eqb (shownAsked f n) 0) (granted (length (shown f) ∷ [])) (refused (shownAsked f n))
+
+-- the lent memory after it
+unfoldable pub shownMemory : Farm → List Chunk → List Chunk
+shownMemory f m = cond (eqb (shownAsked f (length m)) 0) (shown f ++ drop (length (shown f)) m) m

@@ -1,0 +1,173 @@
+-- Demand 1, a theorem a sentence:
+--   "The timetable memory lent to a call holds, after it, the lines of the answer at its front and its former
+--    contents everywhere else;"                                                       move-writes, shown-writes
+--   "after a refusal it is unchanged throughout, and so is the farm."                  open-keeps, offer-keeps, move-keeps, shown-keeps
+--   "This is so for all arguments and lengths, and every call ends,"                   the functions' contracts, which have no `requires`
+--   "refused exactly where the papers name a refusal and granted otherwise."           open-asks, offer-asks, move-asks, shown-asks, account-asks
+-- The contracts equate the functions of src/ with the definitions that these theorems speak of.
+use mathlib.Core.Path.{_≡_, refl, ap}
+use mathlib.Core.List.{List, [], _∷_, _++_}
+use mathlib.Core.Bool.{Bool, true, false, cond, _&&_}
+use Prim.Native.Nat.{ℕ, zero, suc, _+_, _-_}
+use native.Mathlib.Omega.{arith}
+use lib.Dec.{leb, ltb, eqb}
+use lib.ListN.{length, drop}
+use Rattle.shares.specs.declared.Costs.{Costs}
+use Rattle.walk.specs.declared.Chunk.{Chunk}
+use Rattle.planner.specs.declared.Farm.{Farm}
+use Rattle.planner.specs.Model.{greatest, between, costsWithin}
+use Rattle.planner.specs.Passes.{passesOf}
+use Rattle.planner.specs.Calls.{Said, granted, refused, showsWithin, openSaid, openFarm, unopened, openedWith, accountSaid, heldBy, allowanceOf, planned, accepts, withPlan, ofNumber, yesOf, offerAsked, offerSaid, offerFarm}
+use Rattle.planner.specs.Clock.{issued, movedFarm, moveAsked, moveSaid, moveFarm, moveMemory, shown, shownAsked, shownSaid, shownMemory}
+use Rattle.planner.specs.MoveKept.{move-is, move-stopped, shown-is, shown-stopped}
+
+-- ---- Refused exactly where the papers name a refusal
+
+-- a question: its number in the paper, and whether it is answered yes
+pub record Put : Type 0 where
+  pub number : ℕ
+  pub yes : Bool
+
+abbrev pub asks : ℕ → Bool → Put
+asks n b = record { number = n; yes = b }
+
+-- a call stops at the first question answered no and returns its number; 0 where all are answered yes
+unfoldable pub firstNo : List Put → ℕ
+firstNo [] = 0
+firstNo (q ∷ qs) = cond (q .yes) (firstNo qs) (q .number)
+
+-- An opening is refused with 1, 2 or 3, by the first of its questions answered no, and granted otherwise.
+pub open-asks : (n : ℕ) (c : Costs) (al : List ℕ) → openSaid n c al .number ≡ firstNo (asks 1 (between 1 n 64) ∷ asks 2 (costsWithin c) ∷ asks 3 (showsWithin al) ∷ [])
+unfolding openSaid firstNo
+open-asks n c al = go (between 1 n 64) (costsWithin c) (showsWithin al)
+  where
+    go : (a b d : Bool) → cond {A = Said} a (cond b (cond d (granted (n ∷ length al ∷ [])) (refused 3)) (refused 2)) (refused 1) .number ≡ cond {A = ℕ} a (cond b (cond d 0 3) 2) 1
+    go true true true = refl
+    go true true false = refl
+    go true false d = refl
+    go false b d = refl
+
+-- An offer is refused with 11, 4, 5, 6, 7 or 8, and granted otherwise.
+pub offer-asks : (f : Farm) (s z d : ℕ)
+    → offerSaid f s z d .number
+    ≡ firstNo (asks 11 (passesOf f) ∷ asks 4 (between 1 s (f .shows)) ∷ asks 5 (between 1 z 1_000_000) ∷ asks 6 (ltb (f .clock) d && leb d greatest) ∷ asks 7 (ltb (f .waiting) 128 && ltb (f .used) greatest) ∷ asks 8 (accepts f s z d) ∷ [])
+unfolding offerSaid offerAsked firstNo
+offer-asks f s z d =
+    go (passesOf f) (between 1 s (f .shows)) (between 1 z 1_000_000) (ltb (f .clock) d && leb d greatest) (ltb (f .waiting) 128 && ltb (f .used) greatest) (accepts f s z d)
+    (yesOf (f .costs) (ofNumber (f .used + 1) (planned f s z d)) .values)
+  where
+    asked : Bool → Bool → Bool → Bool → Bool → ℕ
+    asked a b c e g = cond a (cond b (cond c (cond e (cond g 0 7) 6) 5) 4) 11
+
+    go : (a b c e g h : Bool) (vs : List ℕ)
+        → cond {A = Said} (eqb (asked a b c e g) 0) (cond h (granted vs) (refused 8)) (refused (asked a b c e g)) .number
+        ≡ cond {A = ℕ} a (cond b (cond c (cond e (cond g (cond h 0 8) 7) 6) 5) 4) 11
+    go true true true true true true vs = refl
+    go true true true true true false vs = refl
+    go true true true true false h vs = refl
+    go true true true false g h vs = refl
+    go true true false e g h vs = refl
+    go true false c e g h vs = refl
+    go false b c e g h vs = refl
+
+-- A clock move is refused with 11, 9 or 10, and granted otherwise.
+pub move-asks : (f : Farm) (t n : ℕ) → moveSaid f t n .number ≡ firstNo (asks 11 (passesOf f) ∷ asks 9 (between (f .clock) t greatest) ∷ asks 10 (leb (length (issued f t)) n) ∷ [])
+unfolding moveSaid moveAsked firstNo
+move-asks f t n = go (passesOf f) (between (f .clock) t greatest) (leb (length (issued f t)) n)
+  where
+    asked : Bool → Bool → Bool → ℕ
+    asked a b c = cond a (cond b (cond c 0 10) 9) 11
+
+    go : (a b c : Bool) → cond {A = Said} (eqb (asked a b c) 0) (granted (t ∷ length (issued f t) ∷ [])) (refused (asked a b c)) .number ≡ cond {A = ℕ} a (cond b (cond c 0 10) 9) 11
+    go true true true = refl
+    go true true false = refl
+    go true false c = refl
+    go false b c = refl
+
+-- Showing is refused with 11 or 10, and granted otherwise.
+pub shown-asks : (f : Farm) (n : ℕ) → shownSaid f n .number ≡ firstNo (asks 11 (passesOf f) ∷ asks 10 (leb (length (shown f)) n) ∷ [])
+unfolding shownSaid shownAsked firstNo
+shown-asks f n = go (passesOf f) (leb (length (shown f)) n)
+  where
+    asked : Bool → Bool → ℕ
+    asked a b = cond a (cond b 0 10) 11
+
+    go : (a b : Bool) → cond {A = Said} (eqb (asked a b) 0) (granted (length (shown f) ∷ [])) (refused (asked a b)) .number ≡ cond {A = ℕ} a (cond b 0 10) 11
+    go true true = refl
+    go true false = refl
+    go false b = refl
+
+-- An account is refused with 11 or 4, and granted otherwise.
+pub account-asks : (f : Farm) (s : ℕ) → accountSaid f s .number ≡ firstNo (asks 11 (passesOf f) ∷ asks 4 (between 1 s (f .shows)) ∷ [])
+unfolding accountSaid firstNo
+account-asks f s = go (passesOf f) (between 1 s (f .shows)) (s ∷ heldBy f s ∷ (heldBy f s - allowanceOf f s) ∷ [])
+  where
+    go : (a b : Bool) (vs : List ℕ) → cond {A = Said} a (cond b (granted vs) (refused 4)) (refused 11) .number ≡ cond {A = ℕ} a (cond b 0 4) 11
+    go true true vs = refl
+    go true false vs = refl
+    go false b vs = refl
+
+-- ---- A refusal changes nothing
+
+-- A refused opening hands back the unopened farm.
+pub open-keeps : (n : ℕ) (c : Costs) (al : List ℕ) (k : ℕ) → openSaid n c al .number ≡ suc k → openFarm n c al ≡ unopened
+unfolding openSaid openFarm
+open-keeps n c al k = go (between 1 n 64) (costsWithin c) (showsWithin al)
+  where
+    go : (a b d : Bool) → cond {A = Said} a (cond b (cond d (granted (n ∷ length al ∷ [])) (refused 3)) (refused 2)) (refused 1) .number ≡ suc k
+        → cond {A = Farm} (a && b && d) (openedWith n c al) unopened ≡ unopened
+    go true true true e = absurd (omega arith)
+    go true true false e = refl
+    go true false d e = refl
+    go false b d e = refl
+
+-- A refused offer hands back the farm as it was.
+pub offer-keeps : (f : Farm) (s z d k : ℕ) → offerSaid f s z d .number ≡ suc k → offerFarm f s z d ≡ f
+unfolding offerSaid offerFarm
+offer-keeps f s z d k = go (eqb (offerAsked f s z d) 0) (accepts f s z d) (yesOf (f .costs) (ofNumber (f .used + 1) (planned f s z d)) .values)
+  where
+    go : (a h : Bool) (vs : List ℕ) → cond {A = Said} a (cond h (granted vs) (refused 8)) (refused (offerAsked f s z d)) .number ≡ suc k
+        → cond {A = Farm} a (cond h (withPlan f (planned f s z d)) f) f ≡ f
+    go true true vs e = absurd (omega arith)
+    go true false vs e = refl
+    go false h vs e = refl
+
+-- A refused clock move hands back the farm and the lent memory as they were.
+pub move-keeps : (f : Farm) (t : ℕ) (m : List Chunk) (k : ℕ) → moveSaid f t (length m) .number ≡ suc k → (moveFarm f t (length m) ≡ f) × (moveMemory f t m ≡ m)
+unfolding moveSaid moveFarm moveMemory
+move-keeps f t m k = go (eqb (moveAsked f t (length m)) 0)
+  where
+    go : (a : Bool) → cond {A = Said} a (granted (t ∷ length (issued f t) ∷ [])) (refused (moveAsked f t (length m))) .number ≡ suc k
+        → (cond {A = Farm} a (movedFarm f t) f ≡ f) × (cond {A = List Chunk} a (issued f t ++ drop (length (issued f t)) m) m ≡ m)
+    go true e = absurd (omega arith)
+    go false e = (refl, refl)
+
+-- Refused showing leaves the lent memory as it was (the farm comes back as it was in any case).
+pub shown-keeps : (f : Farm) (m : List Chunk) (k : ℕ) → shownSaid f (length m) .number ≡ suc k → shownMemory f m ≡ m
+unfolding shownSaid shownMemory
+shown-keeps f m k = go (eqb (shownAsked f (length m)) 0)
+  where
+    go : (a : Bool) → cond {A = Said} a (granted (length (shown f) ∷ [])) (refused (shownAsked f (length m))) .number ≡ suc k
+        → cond {A = List Chunk} a (shown f ++ drop (length (shown f)) m) m ≡ m
+    go true e = absurd (omega arith)
+    go false e = refl
+
+-- ---- A grant writes its lines and nothing else
+
+-- After a granted clock move the lent memory is the lines with its former contents behind them.
+pub move-writes : (f : Farm) (t : ℕ) (m : List Chunk) → moveSaid f t (length m) .number ≡ 0
+    → (moveSaid f t (length m) ≡ granted (t ∷ length (issued f t) ∷ [])) × (moveFarm f t (length m) ≡ movedFarm f t) × (moveMemory f t m ≡ issued f t ++ drop (length (issued f t)) m)
+move-writes f t m e = move-is f t m (go (moveAsked f t (length m)) refl)
+  where
+    go : (n : ℕ) → moveAsked f t (length m) ≡ n → moveAsked f t (length m) ≡ 0
+    go zero q = q
+    go (suc n) q = absurd (let r = ap (λ (x : Said). x .number) (move-stopped f t m n q .0) in omega arith)
+
+-- So it is after granted showing.
+pub shown-writes : (f : Farm) (m : List Chunk) → shownSaid f (length m) .number ≡ 0
+    → (shownSaid f (length m) ≡ granted (length (shown f) ∷ [])) × (shownMemory f m ≡ shown f ++ drop (length (shown f)) m)
+shown-writes f m e = shown-is f m (go (shownAsked f (length m)) refl)
+  where
+    go : (n : ℕ) → shownAsked f (length m) ≡ n → shownAsked f (length m) ≡ 0
+    go zero q = q
+    go (suc n) q = absurd (let r = ap (λ (x : Said). x .number) (shown-stopped f m n q .0) in omega arith)

@@ -1,0 +1,350 @@
+-- Demand 3, its sentences beside the parts of the claim (`Demand3` below; `demand3` at the end is the theorem):
+--   "For every list of offers and clock moves, refused ones included, after a granted opening, each call given the farm
+--    that the one before it handed back,"                                             demand3, over `run` (Lists.antt)
+--   "no accepted job is late."                                                        each, due
+--   "Its chunks are issued, each once, all by the first granted clock move after its acceptance to reach the start it
+--    has at that move,"                                                               stories (`Fate` in Lists.antt)
+--   "and no others are ever issued."                                                  only
+--   "They add up to its size, end by its deadline,"                                   each (`Fulfils` in Lists.antt)
+--   "and have been issued once the clock has reached that deadline."                  due
+--   "No later call alters an issued chunk."                                           unaltered
+--   "No two chunks, issued or booked, are on one node, and no two of their sends on the link, in the same tick."   apart
+--   "After the list each show's held ticks equal the sum over its issued chunks."     held
+-- and document 01's readings under "Demand 3 over a list": clock, free, link, numbers, latest, accepted, walks; "A granted opening and the calls
+-- after it always hand back a farm that passes": passes; "shorter moves then get through, as no two jobs share a start": starts, next.
+use mathlib.Core.Path.{_≡_, refl, ap, sym, subst, _∙_}
+use mathlib.Core.List.{List, [], _∷_, _++_, map, map-map, List·Memᴰ, List·Memᴰ·head, Permᴰ·map, Permᴰ·symm, Permᴰ·append-left}
+use mathlib.Core.Bool.{Bool, true, false, cond, _&&_, false≢true}
+use mathlib.Core.Logic.{_⊎_, inl, inr, ⊎-elim}
+use Prim.Native.Nat.{ℕ, zero, suc, _-_, _≤_, _<_, max}
+use native.Mathlib.Nat.{mul-le-mul-right}
+use native.Mathlib.Omega.{arith}
+use borrow.Author.Tests.{eqb-true, eqb-false}
+use lib.Dec.{eqb}
+use lib.ListN.{length, replicate, length-replicate, getD-replicate}
+use Rattle.lists.specs.Laws.{All, Pairs, Differ, all-map, all-of, all-image, all-join, perm-all, perm-mem, perm-pairs, mem-image, at-member, mem-left, mem-right}
+use Rattle.shares.specs.declared.Costs.{Costs}
+use Rattle.shares.specs.Model.{finish}
+use Rattle.shares.specs.Lists.{Positive}
+use Rattle.booking.specs.Best.{freeAt, units}
+use Rattle.walk.specs.declared.Job.{Job}
+use Rattle.walk.specs.declared.Busy.{Busy}
+use Rattle.planner.specs.declared.Farm.{Farm}
+use Rattle.planner.specs.Model.{between, costsWithin, Span, linesOf, spansOf, spansOfAll, Sized, after, afters, byDeadline, byStart, plan, waitingOf, busyOf, termsOf, Between, Apart}
+use Rattle.planner.specs.Passes.{passesOf}
+use Rattle.walk.specs.Chain.{Fits, Chain, chain-append, Proper, free-same, free-other, after-length, chain-apart}
+use Rattle.walk.specs.Order.{by-start-perm, by-deadline-perm}
+use Rattle.walk.specs.Booked.{BestAll, walk-best}
+use Rattle.planner.specs.Offer.{walk-ready}
+use Rattle.soundness.specs.Sweep.{spans-all, spans-perm, apart-sym}
+use Rattle.planner.specs.Sound.{passes-iff}
+use Rattle.planner.specs.Calls.{Said, granted, refused, showsWithin, openFarm, openSaid, heldBy, newJob, queueOf, planned, withPlan}
+use Rattle.planner.specs.Kept.{waiting-planned}
+use Rattle.planner.specs.Clock.{begun, issued, moveAsked}
+use Rattle.planner.specs.Starts.{StartsDiffer, starts-differ, next-few, next-granted}
+use Rattle.planner.specs.Lists.{Call, offer, move, handed, isGranted, linesBy, Accepted, jobsBy, World, opening, note, run, heldOf, upTo, linesFor, latestFinish, latestSent, acceptedOf, Fulfils, FromFirst, Waits, Silent, Fate}
+use Rattle.planner.specs.Seam.{chunkOf, numberOfJob}
+use Rattle.planner.specs.MoveKept.{Waiting, waiting-jobs, booked-chain}
+use Rattle.planner.specs.Outcome.{taken, Takes, Moves, outcome}
+use Rattle.planner.specs.Invariant.{idle, Whole, Inv, plan-accepted, whole-proper, open-inv, note-inv, run-inv}
+use Rattle.planner.specs.Stories.{spans-named, none-of-jobs, lines-none, lines-own, whole-fulfils, spans-first, waits-as, Gone, gone-silent, begun-gone, front-differ, none-before, Among, story}
+
+-- ---- The claim
+
+-- A job accepted as x has been issued: the issued chunks of its number are those of one booking, each once, that do what was accepted.
+pub record Issued (x : Accepted) (w : World) : Type 0 where
+  pub job : Job
+  pub same : acceptedOf job ≡ x
+  pub lines : linesFor (x .number) (w .lines) ≡ spansOf (w .farm .costs) job
+  -- the start noted with each is the send start of the first
+  pub start : FromFirst (linesFor (x .number) (w .lines))
+  pub chunks : Fulfils x (linesOf (w .farm .costs) job)
+
+-- A job accepted as x waits: none of its chunks has been issued, those booked do what was accepted, as the latest walk that replaced the plan gave
+-- them, and the clock has not reached its deadline.
+pub record Booked (x : Accepted) (w : World) : Type 0 where
+  pub waits : Waits x (w .farm)
+  pub lines : linesFor (x .number) (w .lines) ≡ []
+  pub latest : List·Memᴰ (waits .job) (w .latest)
+  pub early : w .farm .clock < x .deadline
+
+-- The walk of an offer that was accepted after v: what it knew, and that it gave each job the best of all choices behind those before it (demand 2).
+pub record Walked (v : World) (s z d : ℕ) : Type 0 where
+  -- its plan replaced the old one
+  pub plans : note v (offer s z d) .latest ≡ plan (termsOf (v .farm)) (busyOf (v .farm)) (byDeadline (waitingOf (v .farm) ++ newJob (v .farm) s z d ∷ []))
+  pub best : BestAll (termsOf (v .farm)) (busyOf (v .farm)) (byDeadline (waitingOf (v .farm) ++ newJob (v .farm) s z d ∷ []))
+  -- it knew the clock, and as free times the latest finish of an issued chunk on each node and the latest end of an issued send
+  pub clock : termsOf (v .farm) .clock ≡ v .time
+  pub free : (k : ℕ) → Between 1 k (v .farm .nodes) → freeAt (busyOf (v .farm) .free) k ≡ latestFinish k (v .lines)
+  pub link : busyOf (v .farm) .link ≡ latestSent (v .lines)
+
+-- the list is the calls before one, that one, and those after it
+abbrev pub Split : List Call → List Call → Call → List Call → Type 0
+Split cs before c after = cs ≡ before ++ c ∷ after
+
+-- demand 3 of the calls cs after an opening that handed the farm f back, w what is noted after them
+pub record Demand3 (f : Farm) (cs : List Call) (w : World) : Type 0 where
+  -- No accepted job is late: its chunks, issued or where the list ends before that booked, add up to its size and end by its deadline.
+  pub each : All (λ (x : Accepted). Issued x w ⊎ Booked x w) (w .jobs)
+  -- They have been issued once the clock has reached its deadline.
+  pub due : All (λ (x : Accepted). x .deadline ≤ w .farm .clock → Issued x w) (w .jobs)
+  -- They are issued, each once, all by the first granted clock move after its acceptance to reach the start it has at that move.
+  pub stories : (before : List Call) (c : Call) (after : List Call) → Split cs before c after
+      → All (λ (x : Accepted). Fate x (handed (run (opening f) before .farm) c) after) (jobsBy (run (opening f) before .farm) c)
+  -- No others are ever issued.
+  pub only : All (λ (y : Span). List·Memᴰ (y .chunk .job) (map (λ (x : Accepted). x .number) (w .jobs))) (w .lines)
+  -- No later call alters an issued chunk: none issues a chunk of its job.
+  pub unaltered : (before : List Call) (c : Call) (after : List Call) → Split cs before c after
+      → All (λ (y : Span). Silent (y .chunk .job) (handed (run (opening f) before .farm) c) after) (linesBy (run (opening f) before .farm) c)
+  -- No two chunks, issued or booked, share a tick of a node or of the link.
+  pub apart : Pairs Apart (w .lines ++ spansOfAll (w .farm .costs) (waitingOf (w .farm)))
+  -- Each show's held ticks equal the sum over its issued chunks.
+  pub held : (s : ℕ) → Between 1 s (w .farm .shows) → heldBy (w .farm) s ≡ heldOf s (w .lines)
+  -- Each node's free time is the latest finish of a chunk issued on it, and the link's the latest end of an issued send.
+  pub free : (k : ℕ) → Between 1 k (w .farm .nodes) → freeAt (w .farm .free) k ≡ latestFinish k (w .lines)
+  pub link : w .farm .link ≡ latestSent (w .lines)
+  -- The clock is the time of the last granted clock move.
+  pub clock : w .farm .clock ≡ w .time
+  -- Accepted jobs are numbered 1, 2, 3 in order of acceptance.
+  pub numbers : map (λ (x : Accepted). x .number) (w .jobs) ≡ upTo (w .farm .used)
+  -- Each waiting booking is what the latest walk that replaced the plan gave that job, and only accepted jobs wait.
+  pub latest : All (λ (j : Job). List·Memᴰ j (w .latest)) (waitingOf (w .farm))
+  pub accepted : All (λ (j : Job). List·Memᴰ (acceptedOf j) (w .jobs)) (waitingOf (w .farm))
+  -- Each such walk knew the clock, the waiting jobs, the new one and the free times that the issued chunks left.
+  pub walks : (before : List Call) (s z d : ℕ) (after : List Call) → Split cs before (offer s z d) after → isGranted (run (opening f) before .farm) (offer s z d) ≡ true
+      → Walked (run (opening f) before) s z d
+  -- No two waiting jobs share a start, so a move to the next start issues at most 64 lines, and is granted wherever 64 records are lent.
+  pub starts : Pairs StartsDiffer (waitingOf (w .farm))
+  pub next : (j : Job) → List·Memᴰ j (waitingOf (w .farm)) → All (λ (k : Job). j .booking .start ≤ k .booking .start) (waitingOf (w .farm))
+      → (length (issued (w .farm) (j .booking .start)) ≤ 64) × ((n : ℕ) → 64 ≤ n → moveAsked (w .farm) (j .booking .start) n ≡ 0)
+  -- The farm passes question 11.
+  pub passes : passesOf (w .farm) ≡ true
+
+-- ---- Free times
+
+latest-one : (k : ℕ) (b : Busy) (x : Span) (r v : ℕ) (t : Bool) → eqb (x .chunk .node) k ≡ t → length (b .free) ≡ 64 → 1 ≤ k → Proper 64 x → Fits b x
+    → v ≡ max (freeAt (after b (x .chunk) .free) k) r → v ≡ max (freeAt (b .free) k) (cond t (max (x .chunk .finish) r) r)
+latest-one k b x r v true e l h p q i =
+    let n : x .chunk .node ≡ k = eqb-true (x .chunk .node) k e in
+    let now : freeAt (after b (x .chunk) .free) k ≡ x .chunk .finish =
+    subst (λ (a : ℕ). freeAt (after b (x .chunk) .free) a ≡ x .chunk .finish) n (free-same (b .free) (x .chunk .node) (x .chunk .finish) (p .node .0) (omega (arith, p .node .1))) in
+    let old : freeAt (b .free) k ≤ x .from = subst (λ (a : ℕ). freeAt (b .free) a ≤ x .from) n (q .1) in
+    omega (arith, i, now, old, p .begins, p .sends, p .ends)
+latest-one k b x r v false e l h p q i =
+    let now : freeAt (after b (x .chunk) .free) k ≡ freeAt (b .free) k = free-other (b .free) (x .chunk .node) k (x .chunk .finish) (p .node .0) h (eqb-false (x .chunk .node) k e) in
+    omega (arith, i, now)
+
+-- Behind a chain each node's free time is the latest finish on it.
+free-latest : (k : ℕ) (b : Busy) (xs : List Span) → length (b .free) ≡ 64 → 1 ≤ k → All (Proper 64) xs → Chain b xs
+    → freeAt (afters b (map chunkOf xs) .free) k ≡ max (freeAt (b .free) k) (latestFinish k xs)
+unfolding afters latestFinish
+free-latest k b [] l h p q = omega arith
+free-latest k b (x ∷ xs) l h p q =
+    latest-one k b x (latestFinish k xs) (freeAt (afters (after b (x .chunk)) (map chunkOf xs) .free) k) (eqb (x .chunk .node) k) refl l h (p .0) (q .0)
+    (free-latest k (after b (x .chunk)) xs (after-length b (x .chunk) ∙ l) h (p .1) (q .1))
+
+-- The link's free time is the latest end of a send.
+link-latest : (b : Busy) (xs : List Span) → All (Proper 64) xs → Chain b xs → afters b (map chunkOf xs) .link ≡ max (b .link) (latestSent xs)
+unfolding afters latestSent
+link-latest b [] p q = omega arith
+link-latest b (x ∷ xs) p q = omega (arith, link-latest (after b (x .chunk)) xs (p .1) (q .1), p .0 .sends, q .0 .0)
+
+-- ---- Numbers
+
+up-to-within : (n : ℕ) → All (λ (x : ℕ). x ≤ n) (upTo n)
+unfolding upTo
+up-to-within zero = tt
+up-to-within (suc n) = all-join (λ (x : ℕ). x ≤ suc n) (upTo n) (suc n ∷ []) (all-map (λ x h. omega arith) (upTo n) (up-to-within n)) (omega arith, tt)
+
+pairs-last : {A : Type 0} (R : A → A → Type 0) (xs : List A) (y : A) → Pairs R xs → All (λ (x : A). R x y) xs → Pairs R (xs ++ y ∷ [])
+pairs-last R [] y h k = (tt, tt)
+pairs-last R (x ∷ xs) y h k = (all-join (R x) xs (y ∷ []) (h .0) (k .0, tt), pairs-last R xs y (h .1) (k .1))
+
+-- The numbers 1, 2, 3, … are different.
+up-to-differ : (n : ℕ) → Differ (upTo n)
+unfolding upTo
+up-to-differ zero = tt
+up-to-differ (suc n) = pairs-last (λ (a b : ℕ). a ≡ b → ⊥) (upTo n) (suc n) (up-to-differ n) (all-map (λ x h e. omega arith) (upTo n) (up-to-within n))
+
+-- A job takes time.
+finish-after : (c : Costs) (t : ℕ) (xs : List ℕ) → 1 ≤ c .send → 1 ≤ length xs → Positive xs → t < finish c t xs
+unfolding finish
+finish-after c t [] m h p = absurd (omega arith)
+finish-after c t (a ∷ xs) m h p = omega (arith, mul-le-mul-right (c .send) (p .0))
+
+-- ---- From the invariant
+
+module _ (w : World) (i : Inv w) where
+  all-differ : Differ (map numberOfJob (i .past ++ waitingOf (w .farm)))
+  all-differ =
+      let d : Differ (map (λ (x : Accepted). x .number) (w .jobs)) = subst Differ (sym (i .numbers)) (up-to-differ (w .farm .used)) in
+      subst Differ (map-map (λ (x : Accepted). x .number) acceptedOf (i .past ++ waitingOf (w .farm)))
+      (perm-pairs (λ (a b : ℕ). a ≡ b → ⊥) (λ a b n q. n (sym q)) (Permᴰ·map (λ (x : Accepted). x .number) (i .jobs)) d)
+
+  past-lines : (j : Job) → List·Memᴰ j (i .past) → linesFor (j .number) (w .lines) ≡ spansOf (w .farm .costs) j
+  past-lines j m = ap (linesFor (j .number)) (i .lines) ∙ lines-own (w .farm .costs) (i .past) j (front-differ (i .past) (waitingOf (w .farm)) all-differ) m
+
+  past-issued : All (λ (j : Job). Issued (acceptedOf j) w) (i .past)
+  past-issued = all-of (i .past) (λ j m. record {
+    job = j;
+    same = refl;
+    lines = past-lines j m;
+    start = subst FromFirst (sym (past-lines j m)) (spans-first (w .farm .costs) j);
+    chunks = whole-fulfils (w .farm .costs) (w .farm .shows) j (at-member (Whole (w .farm .costs) (w .farm .shows)) m (i .whole));
+  })
+
+  job-early : (j : Job) → Waiting (w .farm) j → w .farm .clock < j .deadline
+  job-early j h =
+      let m = passes-iff (w .farm) (i .sized) .0 (i .passes) .within .costs .send .0 in
+      omega (arith, h .sound .clock, h .sound .ends, finish-after (w .farm .costs) (j .booking .start) (units (j .booking)) m (omega (arith, h .paired .0, h .paired .1)) (h .sound .each))
+
+  waiting-booked : All (λ (j : Job). Booked (acceptedOf j) w) (waitingOf (w .farm))
+  waiting-booked = all-of (waitingOf (w .farm)) (λ j m. record {
+    waits = waits-as (w .farm) j (acceptedOf j) (i .sized) (i .passes) m refl;
+    lines = ap (linesFor (j .number)) (i .lines)
+        ∙ lines-none (j .number) (spansOfAll (w .farm .costs) (i .past)) (none-of-jobs (w .farm .costs) (j .number) (i .past) (none-before (i .past) (waitingOf (w .farm)) all-differ j m));
+    latest = at-member (λ (x : Job). List·Memᴰ x (w .latest)) m (i .latest);
+    early = job-early j (at-member (Waiting (w .farm)) m (waiting-jobs (w .farm) (i .sized) (i .passes)));
+  })
+
+  -- Each accepted job has been issued or is booked.
+  each-job : All (λ (x : Accepted). Issued x w ⊎ Booked x w) (w .jobs)
+  each-job =
+      perm-all (λ (x : Accepted). Issued x w ⊎ Booked x w) (Permᴰ·symm (i .jobs))
+      (all-image (λ (x : Accepted). Issued x w ⊎ Booked x w) acceptedOf (i .past ++ waitingOf (w .farm))
+      (all-join (λ (j : Job). Issued (acceptedOf j) w ⊎ Booked (acceptedOf j) w) (i .past) (waitingOf (w .farm)) (all-map (λ j h. inl h) (i .past) past-issued)
+      (all-map (λ j h. inr h) (waitingOf (w .farm)) waiting-booked)))
+
+  due-jobs : All (λ (x : Accepted). x .deadline ≤ w .farm .clock → Issued x w) (w .jobs)
+  due-jobs = all-map (λ x h d. ⊎-elim (λ a. a) (λ b. absurd (omega (arith, b .early))) h) (w .jobs) each-job
+
+  past-number : (j : Job) → List·Memᴰ j (i .past ++ waitingOf (w .farm)) → List·Memᴰ (acceptedOf j) (w .jobs)
+  past-number j m = perm-mem (Permᴰ·symm (i .jobs)) (mem-image acceptedOf m)
+
+  only-jobs : All (λ (y : Span). List·Memᴰ (y .chunk .job) (map (λ (x : Accepted). x .number) (w .jobs))) (w .lines)
+  only-jobs =
+      let P : Span → Type 0 = λ (y : Span). List·Memᴰ (y .chunk .job) (map (λ (x : Accepted). x .number) (w .jobs)) in
+      subst (All P) (sym (i .lines)) (spans-all P (w .farm .costs) (i .past) (all-of (i .past) (λ j m.
+      all-map (λ y e. subst (λ (n : ℕ). List·Memᴰ n (map (λ (x : Accepted). x .number) (w .jobs))) (sym e) (mem-image (λ (x : Accepted). x .number) (past-number j (mem-left (waitingOf (w .farm)) m))))
+      (spansOf (w .farm .costs) j) (spans-named (w .farm .costs) j))))
+
+  lines-proper : All (Proper 64) (w .lines)
+  lines-proper = subst (All (Proper 64)) (sym (i .lines)) (whole-proper (w .farm .costs) (w .farm .shows) (i .past) (i .whole))
+
+  all-apart : Pairs Apart (w .lines ++ spansOfAll (w .farm .costs) (waitingOf (w .farm)))
+  all-apart =
+      let f = w .farm in
+      let c = f .costs in
+      let order = byStart (waitingOf f) in
+      let proper : All (Proper 64) (spansOfAll c order) =
+      spans-all (Proper 64) c order (perm-all (λ (j : Job). All (Proper 64) (spansOf c j)) (by-start-perm (waitingOf f)) (all-map (λ j h. h .proper) (waitingOf f) (waiting-jobs f (i .sized) (i .passes)))) in
+      let chain : Chain idle (w .lines ++ spansOfAll c order) =
+      chain-append idle (w .lines) (spansOfAll c order) .1 (i .chain, subst (λ (b : Busy). Chain b (spansOfAll c order)) (i .busy) (booked-chain f (i .sized) (i .passes))) in
+      perm-pairs Apart apart-sym (Permᴰ·append-left (w .lines) (spans-perm c (Permᴰ·symm (by-start-perm (waitingOf f)))))
+      (chain-apart idle (w .lines ++ spansOfAll c order) (length-replicate {A = ℕ} 64 0) (all-join (Proper 64) (w .lines) (spansOfAll c order) lines-proper proper) chain)
+
+  node-free : (k : ℕ) → Between 1 k (w .farm .nodes) → freeAt (w .farm .free) k ≡ latestFinish k (w .lines)
+  node-free k h =
+      let n = passes-iff (w .farm) (i .sized) .0 (i .passes) .within .nodes .1 in
+      let zero′ : freeAt (replicate 64 0) k ≡ 0 = getD-replicate 64 (k - 1) 0 0 (omega (arith, h .0, h .1)) in
+      let now : freeAt (w .farm .free) k ≡ freeAt (afters idle (map chunkOf (w .lines)) .free) k = ap (λ (b : Busy). freeAt (b .free) k) (i .busy) in
+      omega (arith, zero′, now, free-latest k idle (w .lines) (length-replicate {A = ℕ} 64 0) (h .0) lines-proper (i .chain))
+
+  link-free : w .farm .link ≡ latestSent (w .lines)
+  link-free =
+      let now : w .farm .link ≡ afters idle (map chunkOf (w .lines)) .link = ap (λ (b : Busy). b .link) (i .busy) in
+      omega (arith, now, link-latest idle (w .lines) lines-proper (i .chain))
+
+-- ---- One call of the list
+
+-- A job that a call accepts waits after it.
+new-among : (f : Farm) (c : Call) → Sized f → All (λ (x : Accepted). Among x (handed f c)) (jobsBy f c)
+new-among f (move t m) z = tt
+new-among f (offer s y d) z = ⊎-elim (λ r. subst (All (λ (x : Accepted). Among x (handed f (offer s y d)))) (sym (r .jobs)) tt) takes (outcome f (offer s y d) z)
+  where
+    takes : Takes f s y d → All (λ (x : Accepted). Among x (handed f (offer s y d))) (jobsBy f (offer s y d))
+    takes k =
+        let new = newJob f s y d ∷ [] in
+        let one : List·Memᴰ (taken f s y d) (map acceptedOf (waitingOf f ++ new)) = mem-image acceptedOf (mem-right (waitingOf f) (List·Memᴰ·head refl)) in
+        let two : List·Memᴰ (taken f s y d) (map acceptedOf (queueOf f s y d)) = perm-mem (Permᴰ·map acceptedOf (by-deadline-perm (waitingOf f ++ new))) one in
+        let three : Among (taken f s y d) (withPlan f (planned f s y d)) =
+        subst (λ (l : List Job). List·Memᴰ (taken f s y d) (map acceptedOf l)) (sym (waiting-planned f s y d z (k .granted) (k .books)))
+        (subst (List·Memᴰ (taken f s y d)) (sym (plan-accepted (termsOf f) (busyOf f) (queueOf f s y d))) two) in
+        subst (All (λ (x : Accepted). Among x (handed f (offer s y d)))) (sym (k .jobs)) (subst (Among (taken f s y d)) (sym (k .hands)) three, tt)
+
+-- The walk of an accepted offer.
+offer-walked : (w : World) (s z d : ℕ) → Inv w → isGranted (w .farm) (offer s z d) ≡ true → Walked w s z d
+offer-walked w s z d i e = ⊎-elim (λ r. absurd (false≢true (sym (r .says) ∙ e))) takes (outcome (w .farm) (offer s z d) (i .sized))
+  where
+    takes : Takes (w .farm) s z d → Walked w s z d
+    takes k =
+        let f = w .farm in
+        let g = k .granted in
+        let n = passes-iff f (i .sized) .0 (i .passes) .within .nodes .1 in
+        record {
+          plans = k .latest (w .latest);
+          best = walk-best (termsOf f) (busyOf f) (queueOf f s z d) (walk-ready f (newJob f s z d) (record { passes = g .passes; size = g .size .0; deadline = g .deadline; waiting = g .waiting }))
+              (omega (arith, n, i .sized .free)) (k .books);
+          clock = i .clock;
+          free = node-free w i;
+          link = link-free w i;
+        }
+
+-- No call after it issues a chunk of a job that a call has issued.
+issued-silent : (w : World) (c : Call) (cs : List Call) → Inv w → All (λ (y : Span). Silent (y .chunk .job) (handed (w .farm) c) cs) (linesBy (w .farm) c)
+issued-silent w (offer s y d) cs i = tt
+issued-silent w (move t m) cs i = ⊎-elim (λ r. subst (All P) (sym (r .lines)) tt) moves (outcome (w .farm) (move t m) (i .sized))
+  where
+    P : Span → Type 0
+    P y = Silent (y .chunk .job) (handed (w .farm) (move t m)) cs
+
+    moves : Moves (w .farm) t m → All P (linesBy (w .farm) (move t m))
+    moves k =
+        let f = w .farm in
+        subst (All P) (sym (k .lines)) (spans-all P (f .costs) (begun f t) (all-of (begun f t) (λ j h.
+        all-map (λ y e. subst (λ (n : ℕ). Silent n (handed f (move t m)) cs) (sym e)
+        (gone-silent (j .number) (note w (move t m)) cs (note-inv w (move t m) i) (subst (Gone (j .number)) (sym (k .hands)) (begun-gone f t j (i .sized) (i .passes) h))))
+        (spansOf (f .costs) j) (spans-named (f .costs) j))))
+
+-- ---- The theorem
+
+opening-granted : (n : ℕ) (c : Costs) (al : List ℕ) → openSaid n c al .number ≡ 0 → (between 1 n 64 && costsWithin c && showsWithin al) ≡ true
+unfolding openSaid
+opening-granted n c al e = go (between 1 n 64) (costsWithin c) (showsWithin al) e
+  where
+    go : (a b d : Bool) → cond {A = Said} a (cond b (cond d (granted (n ∷ length al ∷ [])) (refused 3)) (refused 2)) (refused 1) .number ≡ 0
+        → (a && b && d) ≡ true
+    go true true true h = refl
+    go true true false h = absurd (omega arith)
+    go true false d h = absurd (omega arith)
+    go false b d h = absurd (omega arith)
+
+-- **Demand 3.** It holds of every list of calls after a granted opening.
+pub demand3 : (n : ℕ) (c : Costs) (al : List ℕ) → openSaid n c al .number ≡ 0 → (cs : List Call) → Demand3 (openFarm n c al) cs (run (opening (openFarm n c al)) cs)
+demand3 n c al e cs =
+    let f = openFarm n c al in
+    let o : Inv (opening f) = open-inv n c al (opening-granted n c al e) in
+    let w = run (opening f) cs in
+    let i : Inv (run (opening f) cs) = run-inv (opening f) cs o in
+    record {
+      each = each-job w i;
+      due = due-jobs w i;
+      stories = λ before x after h.
+          let v = run (opening f) before in
+          let j : Inv (run (opening f) before) = run-inv (opening f) before o in
+          all-map (λ y m. story y (note v x) after (note-inv v x j) m) (jobsBy (v .farm) x) (new-among (v .farm) x (j .sized));
+      only = only-jobs w i;
+      unaltered = λ before x after h. issued-silent (run (opening f) before) x after (run-inv (opening f) before o);
+      apart = all-apart w i;
+      held = λ s h. i .held s (h .0, omega (arith, h .1, passes-iff (w .farm) (i .sized) .0 (i .passes) .within .shows .1));
+      free = node-free w i;
+      link = link-free w i;
+      clock = i .clock;
+      numbers = i .numbers;
+      latest = i .latest;
+      accepted = all-of (waitingOf (w .farm)) (λ j m. past-number w i j (mem-right (i .past) m));
+      walks = λ before s z d after h g. offer-walked (run (opening f) before) s z d (run-inv (opening f) before o) g;
+      starts = starts-differ (w .farm) (i .sized) (i .passes);
+      next = λ j m h. (next-few (w .farm) (i .sized) (i .passes) j m h, next-granted (w .farm) (i .sized) (i .passes) j m h);
+      passes = i .passes;
+    }

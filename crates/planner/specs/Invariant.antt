@@ -1,0 +1,333 @@
+-- What holds after every list of calls: history and plan are one chain of spans, and the farm is what the issued chunks and the accepted jobs make it.
+use mathlib.Core.Path.{_≡_, refl, ap, sym, subst, _∙_}
+use mathlib.Core.List.{List, [], _∷_, _++_, map, append-nil, append-assoc, List·Memᴰ, List·Permᴰ, List·Permᴰ·nil, List·Permᴰ·trans, Permᴰ·map, Permᴰ·append-left, Permᴰ·append-right}
+use mathlib.Core.Bool.{true, _&&_}
+use mathlib.Core.Logic.{⊎-elim}
+use Prim.Native.Nat.{ℕ, suc, _+_, _-_, _≤_, _<_}
+use native.Mathlib.Omega.{arith}
+use native.Mathlib.Numerals.{add-one}
+use lib.ListN.{length, getD, replicate, length-replicate, getD-replicate}
+use Rattle.lists.specs.Laws.{All, all-map, all-both, all-of, all-image, all-take, all-append, all-join, perm-all, map-join}
+use Rattle.shares.specs.declared.Costs.{Costs}
+use Rattle.shares.specs.Model.{sum, finish}
+use Rattle.shares.specs.Lists.{Positive}
+use Rattle.booking.specs.Best.{chosen, units}
+use Rattle.walk.specs.declared.Job.{Job}
+use Rattle.walk.specs.declared.Terms.{Terms}
+use Rattle.walk.specs.declared.Busy.{Busy}
+use Rattle.walk.specs.declared.Chunk.{Chunk}
+use Rattle.planner.specs.declared.Farm.{Farm}
+use Rattle.planner.specs.Model.{greatest, between, costsWithin, Span, linesOf, spansOf, spansOfAll, Sized, afters, waitingOf, busyOf, termsOf, busyAfter, plan, Between}
+use Rattle.planner.specs.Passes.{passesOf}
+use Rattle.walk.specs.Chain.{Chain, chain-append, Proper, job-finish, afters-length}
+use Rattle.walk.specs.Order.{by-deadline-perm}
+use Rattle.soundness.specs.Sweep.{spans-all}
+use Rattle.planner.specs.Sound.{Paired, passes-iff}
+use Rattle.planner.specs.Calls.{openedWith, showsWithin, openFarm, heldBy, newJob, queueOf, planned, withPlan}
+use Rattle.planner.specs.Kept.{all-replicate, opens-with, open-sized, open-passes, waiting-planned, accepted-sized, accepted-passes}
+use Rattle.planner.specs.Clock.{begun, left, issued, movedFarm}
+use Rattle.planner.specs.Lists.{Call, offer, move, Accepted, World, opening, note, run, heldOf, upTo, acceptedOf}
+use Rattle.timetable.specs.Begin.{afters-append}
+use Rattle.planner.specs.Seam.{begun-left, spans-append, chunkOf, spans-chunks, afters-within, sum-within, held-part, held-append, held-free, raised-held}
+use Rattle.planner.specs.MoveKept.{Waiting, moved-chain, begun-jobs, moved-waiting, moved-sized, moved-passes}
+use Rattle.planner.specs.Outcome.{Refused, taken, Takes, Moves, outcome, chunks-named}
+
+-- ---- The invariant
+
+-- the free times before any chunk
+abbrev pub idle : Busy
+idle = record { link = 0; free = replicate 64 0 }
+
+-- what is kept of a job, begun or waiting: its show, its shares, and its chunks by its deadline
+pub record Whole (c : Costs) (shows : ℕ) (j : Job) : Type 0 where
+  pub show : Between 1 (j .show) shows
+  pub deadline : j .deadline ≤ greatest
+  pub paired : Paired j
+  pub each : Positive (units (j .booking))
+  pub all : sum (units (j .booking)) ≡ j .size
+  pub ends : finish c (j .booking .start) (units (j .booking)) ≤ j .deadline
+  pub proper : All (Proper 64) (spansOf c j)
+
+-- what holds after every list of calls
+pub record Inv (w : World) : Type 0 where
+  -- the jobs begun, in order
+  pub past : List Job
+  pub sized : Sized (w .farm)
+  pub passes : passesOf (w .farm) ≡ true
+  pub whole : All (Whole (w .farm .costs) (w .farm .shows)) past
+  -- what was issued is their chunks, one after the other
+  pub lines : w .lines ≡ spansOfAll (w .farm .costs) past
+  pub chain : Chain idle (w .lines)
+  -- the farm's free times and held ticks are what it left
+  pub busy : busyOf (w .farm) ≡ afters idle (map chunkOf (w .lines))
+  pub held : (s : ℕ) → Between 1 s 32 → heldBy (w .farm) s ≡ heldOf s (w .lines)
+  -- each accepted job has begun or waits
+  pub jobs : List·Permᴰ (w .jobs) (map acceptedOf (past ++ waitingOf (w .farm)))
+  pub numbers : map (λ (x : Accepted). x .number) (w .jobs) ≡ upTo (w .farm .used)
+  pub latest : All (λ (j : Job). List·Memᴰ j (w .latest)) (waitingOf (w .farm))
+  pub clock : w .farm .clock ≡ w .time
+
+-- A waiting job of a farm that passes is whole.
+pub waiting-whole : (f : Farm) (j : Job) → Waiting f j → Whole (f .costs) (f .shows) j
+waiting-whole f j h = record {
+  show = h .within .show;
+  deadline = h .within .deadline;
+  paired = h .paired;
+  each = h .sound .each;
+  all = h .sound .all;
+  ends = h .sound .ends;
+  proper = h .proper;
+}
+
+-- ---- An opening
+
+opened-inv : (n : ℕ) (c : Costs) (al : List ℕ) → Sized (openedWith n c al) → passesOf (openedWith n c al) ≡ true → Inv (opening (openedWith n c al))
+unfolding spansOfAll afters heldOf upTo
+opened-inv n c al z e = record {
+  past = [];
+  sized = z;
+  passes = e;
+  whole = tt;
+  lines = refl;
+  chain = tt;
+  busy = refl;
+  held = λ s h. getD-replicate 32 (s - 1) 0 0 (omega arith);
+  jobs = List·Permᴰ·nil;
+  numbers = refl;
+  latest = tt;
+  clock = refl;
+}
+
+-- A granted opening has it.
+pub open-inv : (n : ℕ) (c : Costs) (al : List ℕ) → (between 1 n 64 && costsWithin c && showsWithin al) ≡ true → Inv (opening (openFarm n c al))
+open-inv n c al e =
+    let q = opens-with n c al e in
+    subst (λ (f : Farm). Inv (opening f)) (sym q) (opened-inv n c al (subst Sized q (open-sized n c al)) (subst (λ (f : Farm). passesOf f ≡ true) q (open-passes n c al e)))
+
+-- ---- A world by its parts
+
+abbrev worldOf : Farm → List Span → List Accepted → List Job → ℕ → World
+worldOf f l j p t = record { farm = f; lines = l; jobs = j; latest = p; time = t }
+
+-- Worlds with the same parts are the same.
+same-world : {f g : Farm} {k l : List Span} {i j : List Accepted} {p q : List Job} {t u : ℕ} → f ≡ g → k ≡ l → i ≡ j → p ≡ q → t ≡ u → worldOf f k i p t ≡ worldOf g l j q u
+same-world a b c d e = rw (a, b, c, d, e)
+
+-- ---- A refused call
+
+-- A refused call changes nothing.
+pub refused-note : (w : World) (c : Call) → Refused (w .farm) c → note w c ≡ w
+refused-note w c r =
+    same-world (r .hands) (ap (λ (l : List Span). w .lines ++ l) (r .lines) ∙ append-nil (w .lines)) (ap (λ (l : List Accepted). w .jobs ++ l) (r .jobs) ∙ append-nil (w .jobs))
+    (r .latest (w .latest)) (r .time (w .time))
+
+-- ---- An accepted offer
+
+-- A plan keeps what the jobs were accepted as.
+pub plan-accepted : (w : Terms) (b : Busy) (js : List Job) → map acceptedOf (plan w b js) ≡ map acceptedOf js
+unfolding plan
+plan-accepted w b [] = refl
+plan-accepted w b (j ∷ js) = ap (λ (l : List Accepted). acceptedOf j ∷ l) (plan-accepted w (busyAfter w b j) js)
+
+module _ (w : World) (s z d : ℕ) where
+  abbrev offered : World
+  offered = worldOf (withPlan (w .farm) (planned (w .farm) s z d)) (w .lines) (w .jobs ++ taken (w .farm) s z d ∷ []) (planned (w .farm) s z d) (w .time)
+
+  takes-note : Takes (w .farm) s z d → note w (offer s z d) ≡ offered
+  takes-note k = same-world (k .hands) (append-nil (w .lines)) (ap (λ (l : List Accepted). w .jobs ++ l) (k .jobs)) (k .latest (w .latest)) refl
+
+  taken-jobs : (past : List Job) → List·Permᴰ (w .jobs) (map acceptedOf (past ++ waitingOf (w .farm)))
+      → List·Permᴰ (w .jobs ++ taken (w .farm) s z d ∷ []) (map acceptedOf (past ++ planned (w .farm) s z d))
+  taken-jobs past h =
+      let f = w .farm in
+      let ws = waitingOf f in
+      let new = newJob f s z d ∷ [] in
+      let one : List·Permᴰ (w .jobs ++ taken f s z d ∷ []) (map acceptedOf (past ++ ws) ++ map acceptedOf new) = Permᴰ·append-right (taken f s z d ∷ []) h in
+      let two : map acceptedOf (past ++ ws) ++ map acceptedOf new ≡ map acceptedOf (past ++ (ws ++ new)) =
+      sym (map-join acceptedOf (past ++ ws) new) ∙ ap (map acceptedOf) (append-assoc past ws new) in
+      let three : List·Permᴰ (map acceptedOf (past ++ (ws ++ new))) (map acceptedOf (past ++ queueOf f s z d)) = Permᴰ·map acceptedOf (Permᴰ·append-left past (by-deadline-perm (ws ++ new))) in
+      let four : map acceptedOf (past ++ queueOf f s z d) ≡ map acceptedOf (past ++ planned f s z d) =
+      map-join acceptedOf past (queueOf f s z d) ∙ ap (λ (l : List Accepted). map acceptedOf past ++ l) (sym (plan-accepted (termsOf f) (busyOf f) (queueOf f s z d))) ∙ sym (map-join acceptedOf past (planned f s z d)) in
+      List·Permᴰ·trans (subst (List·Permᴰ (w .jobs ++ taken f s z d ∷ [])) two one) (subst (List·Permᴰ (map acceptedOf (past ++ (ws ++ new)))) four three)
+
+  taken-numbers : map (λ (x : Accepted). x .number) (w .jobs) ≡ upTo (w .farm .used) → map (λ (x : Accepted). x .number) (w .jobs ++ taken (w .farm) s z d ∷ []) ≡ upTo (w .farm .used + 1)
+  unfolding upTo
+  taken-numbers h =
+      map-join (λ (x : Accepted). x .number) (w .jobs) (taken (w .farm) s z d ∷ []) ∙ rw (h, add-one (w .farm .used))
+
+  -- An accepted offer keeps the invariant.
+  takes-inv : Inv w → Takes (w .farm) s z d → Inv offered
+  takes-inv i k =
+      let f = w .farm in
+      let now : waitingOf (withPlan f (planned f s z d)) ≡ planned f s z d = waiting-planned f s z d (i .sized) (k .granted) (k .books) in
+      let size = accepted-sized f s z d (i .sized) (k .granted) (k .books) in
+      record {
+        past = i .past;
+        sized = size;
+        passes = passes-iff (withPlan f (planned f s z d)) size .1 (accepted-passes f s z d (i .sized) (k .granted) (k .books));
+        whole = i .whole;
+        lines = i .lines;
+        chain = i .chain;
+        busy = i .busy;
+        held = i .held;
+        jobs = subst (λ (l : List Job). List·Permᴰ (w .jobs ++ taken f s z d ∷ []) (map acceptedOf (i .past ++ l))) (sym now) (taken-jobs (i .past) (i .jobs));
+        numbers = taken-numbers (i .numbers);
+        latest = subst (All (λ (j : Job). List·Memᴰ j (planned f s z d))) (sym now) (all-of (planned f s z d) (λ j m. m));
+        clock = i .clock;
+      }
+
+-- ---- Limits of what was issued
+
+-- The spans of whole jobs are proper.
+pub whole-proper : (c : Costs) (n : ℕ) (js : List Job) → All (Whole c n) js → All (Proper 64) (spansOfAll c js)
+whole-proper c n js h = spans-all (Proper 64) c js (all-map (λ j k. k .proper) js h)
+
+-- The chunks of whole jobs are sent and finish within the time range.
+whole-limits : (c : Costs) (n : ℕ) (js : List Job) → All (Whole c n) js → All (λ (x : Chunk). (x .sent ≤ greatest) × (x .finish ≤ greatest)) (map chunkOf (spansOfAll c js))
+whole-limits c n js h =
+    all-image (λ (x : Chunk). (x .sent ≤ greatest) × (x .finish ≤ greatest)) chunkOf (spansOfAll c js)
+    (spans-all (λ (x : Span). (x .chunk .sent ≤ greatest) × (x .chunk .finish ≤ greatest)) c js (all-map one js h))
+  where
+    one : (j : Job) → Whole c n j → All (λ (x : Span). (x .chunk .sent ≤ greatest) × (x .chunk .finish ≤ greatest)) (spansOf c j)
+    one j k = all-both (λ x p q. (omega (arith, p .ends, k .ends, k .deadline), omega (arith, k .ends, k .deadline))) (spansOf c j) (k .proper) (job-finish c j)
+
+all-by : (P : ℕ → Type 0) (xs : List ℕ) → ((i : ℕ) → i < length xs → P (getD xs i 0)) → All P xs
+all-by P [] h = tt
+all-by P (x ∷ xs) h = (h 0 (omega arith), all-by P xs (λ i l. h (suc i) (omega arith)))
+
+-- The free times behind whole jobs are within the time range.
+free-limits : (c : Costs) (n : ℕ) (js : List Job) → All (Whole c n) js
+    → (afters idle (map chunkOf (spansOfAll c js)) .link ≤ greatest) × All (λ (x : ℕ). x ≤ greatest) (afters idle (map chunkOf (spansOfAll c js)) .free)
+free-limits c n js h =
+    afters-within greatest idle (map chunkOf (spansOfAll c js)) (omega arith) (all-replicate (λ (x : ℕ). x ≤ greatest) 64 0 (omega arith)) (whole-limits c n js h)
+
+-- As spans on a node do not overlap, a show's held ticks are at most 64 times the time range.
+held-limit : (c : Costs) (n s : ℕ) (js : List Job) → All (Whole c n) js → Chain idle (spansOfAll c js) → heldOf s (spansOfAll c js) ≤ 64_000_000_000_000
+held-limit c n s js h k =
+    let free = afters idle (map chunkOf (spansOfAll c js)) .free in
+    omega (
+      arith,
+      held-part s (spansOfAll c js),
+      held-free idle (spansOfAll c js) (length-replicate {A = ℕ} 64 0) (whole-proper c n js h) k,
+      sum-within greatest free (free-limits c n js h .1),
+      afters-length idle (map chunkOf (spansOfAll c js)),
+      length-replicate {A = ℕ} 64 0,
+    )
+
+-- ---- A granted clock move
+
+module _ (w : World) (t : ℕ) (m : List Chunk) where
+  abbrev moved : World
+  moved = worldOf (movedFarm (w .farm) t) (w .lines ++ spansOfAll (w .farm .costs) (begun (w .farm) t)) (w .jobs) (w .latest) t
+
+  moves-note : Moves (w .farm) t m → note w (move t m) ≡ moved
+  moves-note k = same-world (k .hands) (ap (λ (l : List Span). w .lines ++ l) (k .lines)) (append-nil (w .jobs)) refl (k .time (w .time))
+
+  module _ (i : Inv w) (k : Moves (w .farm) t m) where
+    moved-whole : All (Whole (w .farm .costs) (w .farm .shows)) (i .past ++ begun (w .farm) t)
+    moved-whole =
+        all-join (Whole (w .farm .costs) (w .farm .shows)) (i .past) (begun (w .farm) t) (i .whole)
+        (all-map (λ j h. waiting-whole (w .farm) j (h .0)) (begun (w .farm) t) (begun-jobs (w .farm) (i .sized) (i .passes) t))
+
+    moved-lines : w .lines ++ spansOfAll (w .farm .costs) (begun (w .farm) t) ≡ spansOfAll (w .farm .costs) (i .past ++ begun (w .farm) t)
+    moved-lines = ap (λ (l : List Span). l ++ spansOfAll (w .farm .costs) (begun (w .farm) t)) (i .lines) ∙ sym (spans-append (w .farm .costs) (i .past) (begun (w .farm) t))
+
+    all-chain : Chain idle (w .lines ++ spansOfAll (w .farm .costs) (begun (w .farm) t))
+    all-chain =
+        chain-append idle (w .lines) (spansOfAll (w .farm .costs) (begun (w .farm) t)) .1
+        (i .chain, subst (λ (b : Busy). Chain b (spansOfAll (w .farm .costs) (begun (w .farm) t))) (i .busy) (moved-chain (w .farm) (i .sized) (i .passes) t .0))
+
+    moved-busy : busyOf (movedFarm (w .farm) t) ≡ afters idle (map chunkOf (w .lines ++ spansOfAll (w .farm .costs) (begun (w .farm) t)))
+    moved-busy =
+        let new = spansOfAll (w .farm .costs) (begun (w .farm) t) in
+        ap (λ (b : Busy). afters b (issued (w .farm) t)) (i .busy) ∙ sym (afters-append idle (map chunkOf (w .lines)) (issued (w .farm) t))
+        ∙ ap (λ (l : List Chunk). afters idle (map chunkOf (w .lines) ++ l)) (sym (spans-chunks (w .farm .costs) (begun (w .farm) t))) ∙ ap (afters idle) (sym (map-join chunkOf (w .lines) new))
+
+    begun-shows : All (λ (x : Span). Between 1 (x .chunk .show) (length (w .farm .held))) (spansOfAll (w .farm .costs) (begun (w .farm) t))
+    begun-shows =
+        let f = w .farm in
+        let limit = passes-iff f (i .sized) .0 (i .passes) .within .shows .1 in
+        spans-all (λ (x : Span). Between 1 (x .chunk .show) (length (f .held))) (f .costs) (begun f t)
+        (all-map (λ j h.
+        all-image (λ (x : Span). Between 1 (x .chunk .show) (length (f .held))) (λ (x : Chunk). record { from = j .booking .start; chunk = x }) (linesOf (f .costs) j)
+        (all-map (λ x e. (omega (arith, e .1, h .0 .within .show .0), omega (arith, e .1, h .0 .within .show .1, i .sized .held))) (linesOf (f .costs) j)
+        (chunks-named (f .costs) (j .number) (j .show) (j .booking .start) (chosen (j .booking)) (units (j .booking)))))
+        (begun f t) (begun-jobs f (i .sized) (i .passes) t))
+
+    moved-held : (s : ℕ) → Between 1 s 32 → heldBy (movedFarm (w .farm) t) s ≡ heldOf s (w .lines ++ spansOfAll (w .farm .costs) (begun (w .farm) t))
+    moved-held s h =
+        let new = spansOfAll (w .farm .costs) (begun (w .farm) t) in
+        omega (arith, raised-held s (w .farm .held) new (h .0) begun-shows, i .held s h, held-append s (w .lines) new)
+
+    held-within : All (λ (x : ℕ). x ≤ 64_000_000_000_000) (movedFarm (w .farm) t .held)
+    held-within =
+        let size = moved-sized (w .farm) (i .sized) (i .passes) t .held in
+        all-by (λ (x : ℕ). x ≤ 64_000_000_000_000) (movedFarm (w .farm) t .held) (λ n l. one n (omega arith))
+      where
+        one : (n : ℕ) → n < 32 → getD (movedFarm (w .farm) t .held) n 0 ≤ 64_000_000_000_000
+        one n l =
+            let p : n ≡ suc n - 1 = omega arith in
+            let h : getD (movedFarm (w .farm) t .held) n 0 ≡ heldOf (suc n) (spansOfAll (w .farm .costs) (i .past ++ begun (w .farm) t)) =
+            ap (λ (x : ℕ). getD (movedFarm (w .farm) t .held) x 0) p ∙ moved-held (suc n) (omega arith, omega arith) ∙ ap (heldOf (suc n)) moved-lines in
+            omega (arith, held-limit (w .farm .costs) (w .farm .shows) (suc n) (i .past ++ begun (w .farm) t) moved-whole (subst (Chain idle) moved-lines all-chain))
+
+    -- the free times are within the time range
+    busy-within : (movedFarm (w .farm) t .link ≤ greatest) × All (λ (x : ℕ). x ≤ greatest) (movedFarm (w .farm) t .free)
+    busy-within =
+        subst (λ (b : Busy). (b .link ≤ greatest) × All (λ (x : ℕ). x ≤ greatest) (b .free)) (sym (moved-busy ∙ ap (λ (l : List Span). afters idle (map chunkOf l)) moved-lines))
+        (free-limits (w .farm .costs) (w .farm .shows) (i .past ++ begun (w .farm) t) moved-whole)
+
+    moved-jobs : List·Permᴰ (w .jobs) (map acceptedOf ((i .past ++ begun (w .farm) t) ++ left (w .farm) t))
+    moved-jobs =
+        let f = w .farm in
+        List·Permᴰ·trans (i .jobs)
+        (subst (λ (l : List Job). List·Permᴰ (map acceptedOf (i .past ++ waitingOf f)) (map acceptedOf l)) (sym (append-assoc (i .past) (begun f t) (left f t)))
+        (Permᴰ·map acceptedOf (Permᴰ·append-left (i .past) (begun-left f t))))
+
+    moved-latest : All (λ (j : Job). List·Memᴰ j (w .latest)) (left (w .farm) t)
+    moved-latest =
+        let f = w .farm in
+        let P : Job → Type 0 = λ (j : Job). List·Memᴰ j (w .latest) in
+        all-append P (begun f t) (left f t) (perm-all P (begun-left f t) (i .latest)) .1
+
+    -- A granted clock move keeps the invariant.
+    moves-inv : Inv moved
+    moves-inv =
+        let f = w .farm in
+        let after : waitingOf (movedFarm f t) ≡ left f t = moved-waiting f (i .sized) (i .passes) t in
+        let size = moved-sized f (i .sized) (i .passes) t in
+        record {
+          past = i .past ++ begun f t;
+          sized = size;
+          passes = passes-iff (movedFarm f t) size .1
+              (moved-passes f (i .sized) (i .passes) t (k .granted .time .1) (all-take (λ (x : ℕ). x ≤ 64_000_000_000_000) (f .shows) (movedFarm f t .held) held-within) (busy-within .0)
+              (all-take (λ (x : ℕ). x ≤ greatest) (f .nodes) (movedFarm f t .free) (busy-within .1)));
+          whole = moved-whole;
+          lines = moved-lines;
+          chain = all-chain;
+          busy = moved-busy;
+          held = moved-held;
+          jobs = subst (λ (l : List Job). List·Permᴰ (w .jobs) (map acceptedOf ((i .past ++ begun f t) ++ l))) (sym after) moved-jobs;
+          numbers = i .numbers;
+          latest = subst (All (λ (j : Job). List·Memᴰ j (w .latest))) (sym after) moved-latest;
+          clock = refl;
+        }
+
+-- ---- Every list
+
+-- A call keeps the invariant.
+pub note-inv : (w : World) (c : Call) → Inv w → Inv (note w c)
+note-inv w (offer s z d) i = ⊎-elim (λ r. subst Inv (sym (refused-note w (offer s z d) r)) i) (λ k. subst Inv (sym (takes-note w s z d k)) (takes-inv w s z d i k)) (outcome (w .farm) (offer s z d) (i .sized))
+note-inv w (move t m) i = ⊎-elim (λ r. subst Inv (sym (refused-note w (move t m) r)) i) (λ k. subst Inv (sym (moves-note w t m k)) (moves-inv w t m i k)) (outcome (w .farm) (move t m) (i .sized))
+
+-- So does every list of calls.
+pub run-inv : (w : World) (cs : List Call) → Inv w → Inv (run w cs)
+unfolding run
+run-inv w [] i = i
+run-inv w (c ∷ cs) i = run-inv (note w c) cs (note-inv w c i)
+
+-- A list of calls in two parts is run the one part after the other.
+pub run-append : (w : World) (xs ys : List Call) → run w (xs ++ ys) ≡ run (run w xs) ys
+unfolding run
+run-append w [] ys = refl
+run-append w (c ∷ xs) ys = run-append (note w c) xs ys

@@ -1,0 +1,178 @@
+-- A list of offers and clock moves after a granted opening, each given the farm that the one before it handed back, and what is noted
+-- of it. Everything here is a definition; nothing is assumed.
+use Prim.Native.Nat.{ℕ, zero, suc, _+_, _≤_, max}
+use mathlib.Core.Path.{_≡_}
+use mathlib.Core.List.{List, [], _∷_, _++_, map, List·Memᴰ}
+use mathlib.Core.Bool.{Bool, true, cond}
+use lib.Dec.{eqb}
+use lib.ListN.{length, getD, take}
+use Rattle.lists.specs.Laws.{All}
+use Rattle.walk.specs.declared.Job.{Job}
+use Rattle.walk.specs.declared.Chunk.{Chunk}
+use Rattle.planner.specs.declared.Farm.{Farm}
+use Rattle.planner.specs.Model.{Span, linesOf, spansOf, waitingOf}
+use Rattle.planner.specs.Calls.{Said, ofNumber, planned, offerSaid, offerFarm}
+use Rattle.planner.specs.Clock.{holds, moveSaid, moveFarm, moveMemory}
+
+-- ---- A call
+
+-- an offer of a show's job of a size by a deadline; or a move to a time, lent a timetable of any length and contents
+pub data Call : Type 0 where
+  offer : ℕ → ℕ → ℕ → Call
+  move : ℕ → List Chunk → Call
+
+-- what it answers
+abbrev pub reply : Farm → Call → Said
+reply f (offer s z d) = offerSaid f s z d
+reply f (move t m) = moveSaid f t (length m)
+
+-- the farm that it hands back
+abbrev pub handed : Farm → Call → Farm
+handed f (offer s z d) = offerFarm f s z d
+handed f (move t m) = moveFarm f t (length m)
+
+-- whether all its questions were answered yes
+abbrev pub isGranted : Farm → Call → Bool
+isGranted f c = eqb (reply f c .number) 0
+
+-- a line with the start that its job has at the move
+abbrev pub withStart : Farm → Chunk → Span
+withStart f x = record { from = ofNumber (x .job) (waitingOf f) .booking .start; chunk = x }
+
+-- the chunks that it issues: as many records as it answers, from the front of the memory that it hands back
+abbrev pub linesBy : Farm → Call → List Span
+linesBy f (offer s z d) = []
+linesBy f (move t m) = cond (isGranted f (move t m)) (map (withStart f) (take (getD (moveSaid f t (length m) .values) 1 0) (moveMemory f t m))) []
+
+-- a job as it was accepted
+pub record Accepted : Type 0 where
+  pub number : ℕ
+  pub show : ℕ
+  pub size : ℕ
+  pub deadline : ℕ
+
+-- the job that it accepts, with the number that it answers
+abbrev pub jobsBy : Farm → Call → List Accepted
+jobsBy f (offer s z d) = cond (isGranted f (offer s z d)) (record { number = getD (offerSaid f s z d .values) 0 0; show = s; size = z; deadline = d } ∷ []) []
+jobsBy f (move t m) = []
+
+-- the plan of the latest walk that replaced the plan: that of a granted offer, else the former
+abbrev pub planBy : Farm → List Job → Call → List Job
+planBy f js (offer s z d) = cond (isGranted f (offer s z d)) (planned f s z d) js
+planBy f js (move t m) = js
+
+-- the time of the last granted clock move
+abbrev pub timeBy : Farm → ℕ → Call → ℕ
+timeBy f u (offer s z d) = u
+timeBy f u (move t m) = cond (isGranted f (move t m)) t u
+
+-- ---- A list of calls
+
+-- the farm, and what was noted: every chunk issued, every job accepted, the latest plan, and the time of the last granted move
+pub record World : Type 0 where
+  pub farm : Farm
+  pub lines : List Span
+  pub jobs : List Accepted
+  pub latest : List Job
+  pub time : ℕ
+
+-- after an opening that handed this farm back
+abbrev pub opening : Farm → World
+opening f = record { farm = f; lines = []; jobs = []; latest = []; time = 0 }
+
+-- after one call more
+abbrev pub note : World → Call → World
+note w c = record {
+  farm = handed (w .farm) c;
+  lines = w .lines ++ linesBy (w .farm) c;
+  jobs = w .jobs ++ jobsBy (w .farm) c;
+  latest = planBy (w .farm) (w .latest) c;
+  time = timeBy (w .farm) (w .time) c;
+}
+
+-- after a list of calls
+unfoldable pub run : World → List Call → World
+run w [] = w
+run w (c ∷ cs) = run (note w c) cs
+
+-- ---- What is compared
+
+-- the sum over the issued chunks of a show
+unfoldable pub heldOf : ℕ → List Span → ℕ
+heldOf s [] = 0
+heldOf s (x ∷ xs) = cond (eqb (x .chunk .show) s) (holds x + heldOf s xs) (heldOf s xs)
+
+-- the job numbers 1, 2, 3, …, n
+unfoldable pub upTo : ℕ → List ℕ
+upTo zero = []
+upTo (suc n) = upTo n ++ suc n ∷ []
+
+-- the issued chunks of a job
+unfoldable pub linesFor : ℕ → List Span → List Span
+linesFor n [] = []
+linesFor n (x ∷ xs) = cond (eqb (x .chunk .job) n) (x ∷ linesFor n xs) (linesFor n xs)
+
+-- the latest finish of an issued chunk on node k, 0 where there is none
+unfoldable pub latestFinish : ℕ → List Span → ℕ
+latestFinish k [] = 0
+latestFinish k (x ∷ xs) = cond (eqb (x .chunk .node) k) (max (x .chunk .finish) (latestFinish k xs)) (latestFinish k xs)
+
+-- the latest end of an issued send, 0 where there is none
+unfoldable pub latestSent : List Span → ℕ
+latestSent [] = 0
+latestSent (x ∷ xs) = max (x .chunk .sent) (latestSent xs)
+
+-- the units of chunks together
+unfoldable pub unitsIn : List Chunk → ℕ
+unitsIn [] = 0
+unitsIn (x ∷ xs) = x .units + unitsIn xs
+
+-- what a waiting or begun job was accepted as
+abbrev pub acceptedOf : Job → Accepted
+acceptedOf j = record { number = j .number; show = j .show; size = j .size; deadline = j .deadline }
+
+-- chunks that do what was accepted: of its number and show, some units each, adding up to its size, ending by its deadline
+pub record Fulfils (x : Accepted) (ls : List Chunk) : Type 0 where
+  pub named : All (λ (y : Chunk). (y .job ≡ x .number) × (y .show ≡ x .show)) ls
+  pub each : All (λ (y : Chunk). 1 ≤ y .units) ls
+  pub all : unitsIn ls ≡ x .size
+  pub ends : All (λ (y : Chunk). y .finish ≤ x .deadline) ls
+
+-- every one of these chunks has as its job's start the send start of the first
+abbrev pub FromFirst : List Span → Type 0
+FromFirst [] = Unit
+FromFirst (y ∷ ys) = All (λ (x : Span). x .from ≡ y .chunk .start) (y ∷ ys)
+
+-- ---- The story of a job
+
+-- it waits, and its booked chunks do what was accepted
+pub record Waits (x : Accepted) (f : Farm) : Type 0 where
+  pub job : Job
+  pub among : List·Memᴰ job (waitingOf f)
+  pub same : acceptedOf job ≡ x
+  pub booked : Fulfils x (linesOf (f .costs) job)
+
+-- the call is a granted clock move that reaches the start u
+abbrev pub Reaches : Farm → Call → ℕ → Type 0
+Reaches f (offer s z d) u = ⊥
+Reaches f (move t m) u = (isGranted f (move t m) ≡ true) × (u ≤ t)
+
+-- no chunk of job n is among these
+abbrev pub NoneOf : ℕ → List Span → Type 0
+NoneOf n xs = All (λ (y : Span). y .chunk .job ≡ n → ⊥) xs
+
+-- none of these calls issues a chunk of job n
+abbrev pub Silent : ℕ → Farm → List Call → Type 0
+Silent n f [] = Unit
+Silent n f (c ∷ cs) = NoneOf n (linesBy f c) × Silent n (handed f c) cs
+
+-- what becomes of a job accepted as x over the calls that follow
+pub data Fate (x : Accepted) : Farm → List Call → Type 0 where
+  -- it waits where the list ends
+  waits : {f : Farm} → Waits x f → Fate x f []
+  -- it waits, and the call is no granted clock move that reaches the start it has then, and issues no chunk of it
+  passes : {f : Farm} {c : Call} {cs : List Call} (h : Waits x f) → (Reaches f c (h .job .booking .start) → ⊥) → NoneOf (x .number) (linesBy f c) → Fate x (handed f c) cs
+      → Fate x f (c ∷ cs)
+  -- it waits, and the call is a granted clock move that reaches the start it has then: all its chunks are issued, each once, and none later
+  begins : {f : Farm} {c : Call} {cs : List Call} (h : Waits x f) → Reaches f c (h .job .booking .start) → linesFor (x .number) (linesBy f c) ≡ spansOf (f .costs) (h .job)
+      → Silent (x .number) (handed f c) cs → Fate x f (c ∷ cs)

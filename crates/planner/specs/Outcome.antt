@@ -1,0 +1,153 @@
+-- What a call does, one of three: it is refused, it takes a job, or it moves the clock.
+use mathlib.Core.Path.{_≡_, refl, ap, ap₂, sym, subst, _∙_}
+use mathlib.Core.List.{List, [], _∷_, _++_, map, List·Memᴰ, List·Memᴰ·head, List·Permᴰ·trans, List·Permᴰ·append-comm}
+use mathlib.Core.Bool.{Bool, true, false}
+use mathlib.Core.Logic.{_⊎_, inl, inr}
+use Prim.Native.Nat.{ℕ, _+_}
+use borrow.Author.Tests.{eqb-true}
+use lib.Dec.{eqb}
+use lib.ListN.{length, take, drop}
+use lib.Seq.{take-at}
+use Rattle.lists.specs.Laws.{All, all-map, all-of, perm-all, perm-mem, mem-image, map-join}
+use Rattle.shares.specs.declared.Costs.{Costs}
+use Rattle.shares.specs.Model.{sendEnd}
+use Rattle.booking.specs.Best.{chosen, units}
+use Rattle.walk.specs.declared.Job.{Job}
+use Rattle.walk.specs.declared.Chunk.{Chunk}
+use Rattle.planner.specs.declared.Farm.{Farm}
+use Rattle.planner.specs.Model.{chunksFrom, linesOf, spansOf, spansOfAll, Sized, byStart, waitingOf, busyOf, termsOf}
+use Rattle.planner.specs.Passes.{passesOf}
+use Rattle.walk.specs.Order.{by-start-perm, by-deadline-perm}
+use Rattle.walk.specs.Plan.{plan-numbers}
+use Rattle.planner.specs.Calls.{granted, ofNumber, newJob, queueOf, planned, accepts, withPlan, offerAsked, offerSaid, offerFarm}
+use Rattle.planner.specs.Offer.{Granted, asked-granted}
+use Rattle.planner.specs.Clock.{startsBy, begun, linesOfAll, issued, movedFarm, moveAsked, moveSaid, moveFarm, moveMemory}
+use Rattle.planner.specs.Lists.{Call, offer, move, handed, isGranted, withStart, linesBy, Accepted, jobsBy, planBy, timeBy}
+use Rattle.planner.specs.Seam.{keep-all, numberOfJob, of-number-is, of-number-found}
+use Rattle.planner.specs.MoveKept.{MoveGranted, move-granted, waiting-differ}
+
+-- a refused call: the farm as it was, and nothing to note
+pub record Refused (f : Farm) (c : Call) : Type 0 where
+  pub says : isGranted f c ≡ false
+  pub hands : handed f c ≡ f
+  pub lines : linesBy f c ≡ []
+  pub jobs : jobsBy f c ≡ []
+  pub latest : (js : List Job) → planBy f js c ≡ js
+  pub time : (u : ℕ) → timeBy f u c ≡ u
+
+-- the job that a granted offer takes
+abbrev pub taken : Farm → ℕ → ℕ → ℕ → Accepted
+taken f s z d = record { number = f .used + 1; show = s; size = z; deadline = d }
+
+-- a granted offer: the plan replaces the old one
+pub record Takes (f : Farm) (s z d : ℕ) : Type 0 where
+  pub granted : Granted f s z d
+  pub books : accepts f s z d ≡ true
+  pub says : isGranted f (offer s z d) ≡ true
+  pub hands : handed f (offer s z d) ≡ withPlan f (planned f s z d)
+  pub jobs : jobsBy f (offer s z d) ≡ taken f s z d ∷ []
+  pub latest : (js : List Job) → planBy f js (offer s z d) ≡ planned f s z d
+
+-- a granted clock move: it issues the chunks of the jobs that start by its time
+pub record Moves (f : Farm) (t : ℕ) (m : List Chunk) : Type 0 where
+  pub granted : MoveGranted f t (length m)
+  pub says : isGranted f (move t m) ≡ true
+  pub hands : handed f (move t m) ≡ movedFarm f t
+  pub lines : linesBy f (move t m) ≡ spansOfAll (f .costs) (begun f t)
+  pub time : (u : ℕ) → timeBy f u (move t m) ≡ t
+
+-- what a call may do
+abbrev pub Outcome : Farm → Call → Type 0
+Outcome f (offer s z d) = Refused f (offer s z d) ⊎ Takes f s z d
+Outcome f (move t m) = Refused f (move t m) ⊎ Moves f t m
+
+-- ---- The lines of a job
+
+-- Each line names its job and its show.
+pub chunks-named : (c : Costs) (j s t : ℕ) (ks xs : List ℕ) → All (λ (x : Chunk). (x .job ≡ j) × (x .show ≡ s)) (chunksFrom c j s t ks xs)
+unfolding chunksFrom
+chunks-named c j s t [] [] = tt
+chunks-named c j s t [] (a ∷ xs) = tt
+chunks-named c j s t (k ∷ ks) [] = tt
+chunks-named c j s t (k ∷ ks) (a ∷ xs) = ((refl, refl), chunks-named c j s (sendEnd c t a) ks xs)
+
+map-same : {A B : Type 0} (f g : A → B) (xs : List A) → All (λ (x : A). f x ≡ g x) xs → map f xs ≡ map g xs
+map-same f g [] h = refl
+map-same f g (x ∷ xs) h = ap₂ _∷_ (h .0) (map-same f g xs (h .1))
+
+-- Lines with the starts that their jobs have are the jobs' spans.
+started-lines : (f : Farm) (c : Costs) (js : List Job) → All (λ (j : Job). ofNumber (j .number) (waitingOf f) ≡ j) js → map (withStart f) (linesOfAll c js) ≡ spansOfAll c js
+unfolding linesOfAll spansOfAll
+started-lines f c [] h = refl
+started-lines f c (j ∷ js) h = map-join (withStart f) (linesOf c j) (linesOfAll c js) ∙ ap₂ _++_ one (started-lines f c js (h .1))
+  where
+    one : map (withStart f) (linesOf c j) ≡ spansOf c j
+    one =
+        map-same (withStart f) (λ (x : Chunk). record { from = j .booking .start; chunk = x }) (linesOf c j)
+        (all-map (λ x e. ap (λ (i : Job). record { from = i .booking .start; chunk = x }) (ap (λ (n : ℕ). ofNumber n (waitingOf f)) (e .0) ∙ h .0)) (linesOf c j)
+        (chunks-named c (j .number) (j .show) (j .booking .start) (chosen (j .booking)) (units (j .booking))))
+
+-- The jobs that begin are those of their numbers.
+begun-found : (f : Farm) (t : ℕ) → Sized f → passesOf f ≡ true → All (λ (j : Job). ofNumber (j .number) (waitingOf f) ≡ j) (begun f t)
+begun-found f t z e =
+    let P : Job → Type 0 = λ (j : Job). ofNumber (j .number) (waitingOf f) ≡ j in
+    let all : All P (waitingOf f) = all-of (waitingOf f) (λ j m. of-number-is (waitingOf f) j (waiting-differ f z e) m) in
+    all-map (λ j h. h .0) (begun f t) (keep-all (startsBy t) P (byStart (waitingOf f)) (perm-all P (by-start-perm (waitingOf f)) all))
+
+-- ---- A clock move
+
+move-moves : (f : Farm) (t : ℕ) (m : List Chunk) → Sized f → MoveGranted f t (length m) → eqb (moveAsked f t (length m)) 0 ≡ true → Moves f t m
+unfolding moveSaid moveFarm moveMemory
+move-moves f t m z g e =
+    let lines : map (withStart f) (take (length (issued f t)) (issued f t ++ drop (length (issued f t)) m)) ≡ spansOfAll (f .costs) (begun f t) =
+    ap (map (withStart f)) (take-at (issued f t) (drop (length (issued f t)) m) (length (issued f t)) refl) ∙ started-lines f (f .costs) (begun f t) (begun-found f t z (g .passes)) in
+    record { granted = g; says = rw e; hands = rw e; lines = rw e lines; time = λ u. rw e }
+
+move-stays : (f : Farm) (t : ℕ) (m : List Chunk) → eqb (moveAsked f t (length m)) 0 ≡ false → Refused f (move t m)
+unfolding moveSaid moveFarm moveMemory
+move-stays f t m e = record { says = rw (e, e); hands = rw e; lines = rw (e, e); jobs = refl; latest = λ js. refl; time = λ u. rw (e, e) }
+
+-- ---- An offer
+
+new-number : (f : Farm) (s z d : ℕ) → ofNumber (f .used + 1) (planned f s z d) .number ≡ f .used + 1
+new-number f s z d =
+    let ws = waitingOf f in
+    let j = newJob f s z d in
+    let m : List·Memᴰ j (queueOf f s z d) = perm-mem (List·Permᴰ·trans (List·Permᴰ·append-comm (j ∷ []) ws) (by-deadline-perm (ws ++ j ∷ []))) (List·Memᴰ·head refl) in
+    of-number-found (planned f s z d) (f .used + 1)
+    (subst (List·Memᴰ (f .used + 1)) (sym (plan-numbers (termsOf f) (busyOf f) (queueOf f s z d))) (mem-image numberOfJob m))
+
+offer-takes : (f : Farm) (s z d : ℕ) → Granted f s z d → eqb (offerAsked f s z d) 0 ≡ true → accepts f s z d ≡ true → Takes f s z d
+unfolding offerSaid offerFarm
+offer-takes f s z d g e b = record {
+  granted = g;
+  books = b;
+  says = rw (e, b);
+  hands = rw (e, b);
+  jobs = rw (e, b) (ap (λ (n : ℕ). record { number = n; show = s; size = z; deadline = d } ∷ []) (new-number f s z d));
+  latest = λ js. rw (e, b);
+}
+
+offer-stays : (f : Farm) (s z d : ℕ) → eqb (offerAsked f s z d) 0 ≡ false → Refused f (offer s z d)
+unfolding offerSaid offerFarm
+offer-stays f s z d e = record { says = rw (e, e); hands = rw e; lines = refl; jobs = rw (e, e); latest = λ js. rw (e, e); time = λ u. refl }
+
+offer-fails : (f : Farm) (s z d : ℕ) → eqb (offerAsked f s z d) 0 ≡ true → accepts f s z d ≡ false → Refused f (offer s z d)
+unfolding offerSaid offerFarm
+offer-fails f s z d e b = record { says = rw (e, b); hands = rw (e, b); lines = refl; jobs = rw (e, b); latest = λ js. rw (e, b); time = λ u. refl }
+
+-- ---- Any call
+
+-- A call is refused, or takes a job, or moves the clock.
+pub outcome : (f : Farm) (c : Call) → Sized f → Outcome f c
+outcome f (offer s z d) k = go (eqb (offerAsked f s z d) 0) (accepts f s z d) refl refl
+  where
+    go : (a b : Bool) → eqb (offerAsked f s z d) 0 ≡ a → accepts f s z d ≡ b → Refused f (offer s z d) ⊎ Takes f s z d
+    go true true p q = inr (offer-takes f s z d (asked-granted f s z d (eqb-true (offerAsked f s z d) 0 p)) p q)
+    go true false p q = inl (offer-fails f s z d p q)
+    go false b p q = inl (offer-stays f s z d p)
+outcome f (move t m) k = go (eqb (moveAsked f t (length m)) 0) refl
+  where
+    go : (a : Bool) → eqb (moveAsked f t (length m)) 0 ≡ a → Refused f (move t m) ⊎ Moves f t m
+    go true p = inr (move-moves f t m k (move-granted f t (length m) (eqb-true (moveAsked f t (length m)) 0 p)) p)
+    go false p = inl (move-stays f t m p)

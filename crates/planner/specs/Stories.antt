@@ -1,0 +1,294 @@
+-- What becomes of each accepted job: it waits until the first granted clock move that reaches the start it has then, which issues all its chunks,
+-- each once; no later call issues one.
+use mathlib.Core.Path.{_≡_, refl, ap, ap₂, sym, subst, _∙_}
+use mathlib.Core.List.{List, [], _∷_, _++_, map, append-nil, List·Memᴰ, List·Memᴰ·head, List·Memᴰ·tail, List·Memᴰ·not-nil, List·Memᴰ·cases-cons, List·Memᴰ·append-cases, Permᴰ·map, Permᴰ·symm}
+use mathlib.Core.Bool.{Bool, true, false, cond, false≢true}
+use mathlib.Core.Logic.{_⊎_, inl, inr, ⊎-elim}
+use Prim.Native.Nat.{ℕ, _+_, _≤_}
+use native.Mathlib.Omega.{arith}
+use borrow.Author.Tests.{leb-true, leb-false, not-true, eq-eqb, ne-eqb}
+use lib.Dec.{eqb}
+use lib.ListN.{length}
+use Rattle.lists.specs.Laws.{All, Differ, all-map, at-member, all-image, image-all, all-append, all-join, pairs-across, mem-left, mem-right, map-join, perm-all, perm-mem, perm-pairs, pairs-parts}
+use Rattle.shares.specs.declared.Costs.{Costs}
+use Rattle.shares.specs.Model.{sum, sendEnd}
+use Rattle.shares.specs.Lists.{Positive}
+use Rattle.booking.specs.Best.{chosen, units}
+use Rattle.walk.specs.declared.Job.{Job}
+use Rattle.walk.specs.declared.Chunk.{Chunk}
+use Rattle.planner.specs.declared.Farm.{Farm}
+use Rattle.planner.specs.Model.{Span, chunksFrom, linesOf, spansOf, spansOfAll, Sized, waitingOf, busyOf, termsOf}
+use Rattle.planner.specs.Passes.{passesOf}
+use Rattle.walk.specs.Chain.{chunks-finish}
+use Rattle.walk.specs.Order.{by-deadline-perm}
+use Rattle.walk.specs.Plan.{plan-numbers}
+use Rattle.soundness.specs.Sweep.{spans-all}
+use Rattle.planner.specs.Calls.{newJob, queueOf, planned, withPlan}
+use Rattle.planner.specs.Kept.{waiting-planned}
+use Rattle.planner.specs.Clock.{startsBy, startsAfter, begun, left, movedFarm}
+use Rattle.planner.specs.Lists.{Call, offer, move, handed, linesBy, Accepted, World, note, linesFor, unitsIn, acceptedOf, Fulfils, FromFirst, Waits, NoneOf, Silent, Fate, waits, passes, begins}
+use Rattle.planner.specs.Seam.{keep-all, begun-left, numberOfJob}
+use Rattle.planner.specs.MoveKept.{Waiting, waiting-jobs, waiting-differ, begun-jobs, moved-waiting}
+use Rattle.planner.specs.Outcome.{Refused, Takes, Moves, outcome, chunks-named}
+use Rattle.planner.specs.Invariant.{Whole, Inv, waiting-whole, plan-accepted, note-inv}
+
+-- ---- Membership
+
+-- one of the list with this image
+pub record From {A B : Type 0} (f : A → B) (xs : List A) (y : B) : Type 0 where
+  pub it : A
+  pub among : List·Memᴰ it xs
+  pub image : f it ≡ y
+
+-- A member of the images is the image of a member.
+pub from-image : {A B : Type 0} (f : A → B) (xs : List A) {y : B} → List·Memᴰ y (map f xs) → From f xs y
+from-image f [] m = absurd (List·Memᴰ·not-nil m)
+from-image f (x ∷ xs) m = ⊎-elim (λ e. record { it = x; among = List·Memᴰ·head refl; image = sym e }) (λ n. let r = from-image f xs n in record { it = r .it; among = List·Memᴰ·tail (r .among); image = r .image }) (List·Memᴰ·cases-cons m)
+
+-- ---- The chunks of a job
+
+-- A job's spans name it.
+pub spans-named : (c : Costs) (j : Job) → All (λ (y : Span). y .chunk .job ≡ j .number) (spansOf c j)
+spans-named c j =
+    all-image (λ (y : Span). y .chunk .job ≡ j .number) (λ (x : Chunk). record { from = j .booking .start; chunk = x }) (linesOf c j)
+    (all-map (λ x h. h .0) (linesOf c j) (chunks-named c (j .number) (j .show) (j .booking .start) (chosen (j .booking)) (units (j .booking))))
+
+-- Jobs of other numbers have no chunk of job n.
+pub none-of-jobs : (c : Costs) (n : ℕ) (js : List Job) → All (λ (j : Job). j .number ≡ n → ⊥) js → NoneOf n (spansOfAll c js)
+none-of-jobs c n js h = spans-all (λ (y : Span). y .chunk .job ≡ n → ⊥) c js (all-map (λ j k. all-map (λ y e q. k (sym e ∙ q)) (spansOf c j) (spans-named c j)) js h)
+
+-- Where no chunk is of job n, it has none.
+pub lines-none : (n : ℕ) (xs : List Span) → NoneOf n xs → linesFor n xs ≡ []
+unfolding linesFor
+lines-none n [] h = refl
+lines-none n (x ∷ xs) h = rw (ne-eqb (x .chunk .job) n (h .0)) (lines-none n xs (h .1))
+
+lines-every : (n : ℕ) (xs : List Span) → All (λ (y : Span). y .chunk .job ≡ n) xs → linesFor n xs ≡ xs
+unfolding linesFor
+lines-every n [] h = refl
+lines-every n (x ∷ xs) h = rw (eq-eqb (x .chunk .job) n (h .0)) (ap (λ (l : List Span). x ∷ l) (lines-every n xs (h .1)))
+
+-- A job's chunks in two lists are those in the one, then those in the other.
+pub lines-append : (n : ℕ) (xs ys : List Span) → linesFor n (xs ++ ys) ≡ linesFor n xs ++ linesFor n ys
+unfolding linesFor
+lines-append n [] ys = refl
+lines-append n (x ∷ xs) ys = go (eqb (x .chunk .job) n) (lines-append n xs ys)
+  where
+    go : (b : Bool) → linesFor n (xs ++ ys) ≡ linesFor n xs ++ linesFor n ys
+        → cond b (x ∷ linesFor n (xs ++ ys)) (linesFor n (xs ++ ys)) ≡ cond b (x ∷ linesFor n xs) (linesFor n xs) ++ linesFor n ys
+    go true e = ap (λ (l : List Span). x ∷ l) e
+    go false e = e
+
+-- Of jobs with different numbers, the chunks of one are its own, each once.
+pub lines-own : (c : Costs) (js : List Job) (j : Job) → Differ (map numberOfJob js) → List·Memᴰ j js → linesFor (j .number) (spansOfAll c js) ≡ spansOf c j
+unfolding spansOfAll
+lines-own c [] j d m = absurd (List·Memᴰ·not-nil m)
+lines-own c (i ∷ js) j d m = lines-append (j .number) (spansOf c i) (spansOfAll c js) ∙ ⊎-elim here (λ n. there n (lines-own c js j (d .1) n)) (List·Memᴰ·cases-cons m)
+  where
+    others : All (λ (x : Job). i .number ≡ x .number → ⊥) js
+    others = image-all (λ (y : ℕ). i .number ≡ y → ⊥) numberOfJob js (d .0)
+
+    here : j ≡ i → linesFor (j .number) (spansOf c i) ++ linesFor (j .number) (spansOfAll c js) ≡ spansOf c j
+    here e =
+        subst (λ (x : Job). linesFor (x .number) (spansOf c i) ++ linesFor (x .number) (spansOfAll c js) ≡ spansOf c x) (sym e)
+        (ap₂ _++_ (lines-every (i .number) (spansOf c i) (spans-named c i)) (lines-none (i .number) (spansOfAll c js) (none-of-jobs c (i .number) js (all-map (λ x k q. k (sym q)) js others)))
+        ∙ append-nil (spansOf c i))
+
+    there : List·Memᴰ j js → linesFor (j .number) (spansOfAll c js) ≡ spansOf c j → linesFor (j .number) (spansOf c i) ++ linesFor (j .number) (spansOfAll c js) ≡ spansOf c j
+    there n r =
+        let k : i .number ≡ j .number → ⊥ = at-member (λ (x : Job). i .number ≡ x .number → ⊥) n others in
+        ap₂ _++_ (lines-none (j .number) (spansOf c i) (all-map (λ y e q. k (sym e ∙ q)) (spansOf c i) (spans-named c i))) r
+
+chunks-units : (c : Costs) (j s t : ℕ) (ks xs : List ℕ) → length ks ≡ length xs → Positive xs
+    → All (λ (y : Chunk). 1 ≤ y .units) (chunksFrom c j s t ks xs) × (unitsIn (chunksFrom c j s t ks xs) ≡ sum xs)
+unfolding chunksFrom unitsIn sum
+chunks-units c j s t [] [] e p = (tt, refl)
+chunks-units c j s t [] (a ∷ xs) e p = absurd (omega arith)
+chunks-units c j s t (k ∷ ks) [] e p = absurd (omega arith)
+chunks-units c j s t (k ∷ ks) (a ∷ xs) e p =
+    let r = chunks-units c j s (sendEnd c t a) ks xs (omega arith) (p .1) in
+    ((p .0, r .0), ap (λ (n : ℕ). a + n) (r .1))
+
+-- The chunks of a whole job do what it was accepted for.
+pub whole-fulfils : (c : Costs) (n : ℕ) (j : Job) → Whole c n j → Fulfils (acceptedOf j) (linesOf c j)
+whole-fulfils c n j h =
+    let s = j .booking .start in
+    let r = chunks-units c (j .number) (j .show) s (chosen (j .booking)) (units (j .booking)) (h .paired .0) (h .each) in
+    record {
+      named = chunks-named c (j .number) (j .show) s (chosen (j .booking)) (units (j .booking));
+      each = r .0;
+      all = r .1 ∙ h .all;
+      ends = all-map (λ x k. omega (arith, h .ends)) (linesOf c j) (chunks-finish c (j .number) (j .show) s (chosen (j .booking)) (units (j .booking)));
+    }
+
+placed-from : (f : ℕ) (xs : List Chunk) → All (λ (x : Span). x .from ≡ f) (map (λ (x : Chunk). record { from = f; chunk = x }) xs)
+placed-from f [] = tt
+placed-from f (x ∷ xs) = (refl, placed-from f xs)
+
+chunks-first : (c : Costs) (j s t : ℕ) (ks xs : List ℕ) → FromFirst (map (λ (x : Chunk). record { from = t; chunk = x }) (chunksFrom c j s t ks xs))
+unfolding chunksFrom
+chunks-first c j s t [] [] = tt
+chunks-first c j s t [] (a ∷ xs) = tt
+chunks-first c j s t (k ∷ ks) [] = tt
+chunks-first c j s t (k ∷ ks) (a ∷ xs) = (refl, placed-from t (chunksFrom c j s (sendEnd c t a) ks xs))
+
+-- A job's start is the send start of its first chunk.
+pub spans-first : (c : Costs) (j : Job) → FromFirst (spansOf c j)
+spans-first c j = chunks-first c (j .number) (j .show) (j .booking .start) (chosen (j .booking)) (units (j .booking))
+
+-- ---- A job that waits
+
+-- A waiting job that was accepted as x waits as x.
+abbrev pub waits-as : (f : Farm) (j : Job) (x : Accepted) → Sized f → passesOf f ≡ true → List·Memᴰ j (waitingOf f) → acceptedOf j ≡ x → Waits x f
+waits-as f j x z e m q = record {
+  job = j;
+  among = m;
+  same = q;
+  booked = subst (λ (y : Accepted). Fulfils y (linesOf (f .costs) j)) q (whole-fulfils (f .costs) (f .shows) j (waiting-whole f j (at-member (Waiting f) m (waiting-jobs f z e))));
+}
+
+-- A job of this number has begun: its number is among those used, and no waiting job has it.
+pub record Gone (n : ℕ) (f : Farm) : Type 0 where
+  pub used : n ≤ f .used
+  pub none : All (λ (j : Job). j .number ≡ n → ⊥) (waitingOf f)
+
+-- the numbers of the jobs that begin differ from those that wait on
+begun-differ : (f : Farm) (t : ℕ) → Sized f → passesOf f ≡ true → Differ (map numberOfJob (begun f t ++ left f t))
+begun-differ f t z e = perm-pairs (λ (a b : ℕ). a ≡ b → ⊥) (λ a b n q. n (sym q)) (Permᴰ·map numberOfJob (begun-left f t)) (waiting-differ f z e)
+
+-- what the numbers of two groups of jobs tell
+module _ (xs ys : List Job) (d : Differ (map numberOfJob (xs ++ ys))) where
+  joined : Differ (map numberOfJob xs ++ map numberOfJob ys)
+  joined = subst Differ (map-join numberOfJob xs ys) d
+
+  -- The first group has different numbers.
+  pub front-differ : Differ (map numberOfJob xs)
+  front-differ = pairs-parts (λ (a b : ℕ). a ≡ b → ⊥) (map numberOfJob xs) (map numberOfJob ys) joined .0
+
+  across : All (λ (i : Job). All (λ (j : Job). i .number ≡ j .number → ⊥) ys) xs
+  across =
+      all-map (λ i h. image-all (λ (b : ℕ). i .number ≡ b → ⊥) numberOfJob ys h) xs
+      (image-all (λ (a : ℕ). All (λ (b : ℕ). a ≡ b → ⊥) (map numberOfJob ys)) numberOfJob xs (pairs-across (λ (a b : ℕ). a ≡ b → ⊥) (map numberOfJob xs) (map numberOfJob ys) joined))
+
+  -- No job of the second group has the number of one of the first.
+  pub none-behind : (j : Job) → List·Memᴰ j xs → All (λ (i : Job). i .number ≡ j .number → ⊥) ys
+  none-behind j m = all-map (λ i h q. h (sym q)) ys (at-member (λ (i : Job). All (λ (j : Job). i .number ≡ j .number → ⊥) ys) m across)
+
+  -- Nor has one of the first that of one of the second.
+  pub none-before : (j : Job) → List·Memᴰ j ys → All (λ (i : Job). i .number ≡ j .number → ⊥) xs
+  none-before j m = all-map (λ i h. at-member (λ (k : Job). i .number ≡ k .number → ⊥) m h) xs across
+
+-- ---- A job that has begun
+
+module _ (n : ℕ) (f : Farm) (z : Sized f) (e : passesOf f ≡ true) where
+  gone-takes : (s y d : ℕ) → Gone n f → Takes f s y d → Gone n (withPlan f (planned f s y d))
+  gone-takes s y d g k =
+      let P : ℕ → Type 0 = λ (a : ℕ). a ≡ n → ⊥ in
+      let queue : All (λ (j : Job). j .number ≡ n → ⊥) (queueOf f s y d) =
+      perm-all (λ (j : Job). j .number ≡ n → ⊥) (by-deadline-perm (waitingOf f ++ newJob f s y d ∷ []))
+      (all-join (λ (j : Job). j .number ≡ n → ⊥) (waitingOf f) (newJob f s y d ∷ []) (g .none) ((λ q. omega (arith, g .used)), tt)) in
+      let all : All (λ (j : Job). j .number ≡ n → ⊥) (planned f s y d) =
+      image-all P numberOfJob (planned f s y d) (subst (All P) (sym (plan-numbers (termsOf f) (busyOf f) (queueOf f s y d))) (all-image P numberOfJob (queueOf f s y d) queue)) in
+      record {
+        used = omega (arith, g .used);
+        none = subst (All (λ (j : Job). j .number ≡ n → ⊥)) (sym (waiting-planned f s y d z (k .granted) (k .books))) all;
+      }
+
+  gone-moves : (t : ℕ) (m : List Chunk) → Gone n f → Moves f t m → NoneOf n (linesBy f (move t m)) × Gone n (handed f (move t m))
+  gone-moves t m g k =
+      let P : Job → Type 0 = λ (j : Job). j .number ≡ n → ⊥ in
+      let both = all-append P (begun f t) (left f t) (perm-all P (begun-left f t) (g .none)) in (
+        subst (NoneOf n) (sym (k .lines)) (none-of-jobs (f .costs) n (begun f t) (both .0)),
+        subst (Gone n) (sym (k .hands)) (record { used = g .used; none = subst (All P) (sym (moved-waiting f z e t)) (both .1) }),
+      )
+
+  -- A call issues no chunk of a job that has begun before it, and the job has begun after it too.
+  gone-stays : (c : Call) → Gone n f → NoneOf n (linesBy f c) × Gone n (handed f c)
+  gone-stays (offer s y d) g =
+      (tt, ⊎-elim (λ r. subst (Gone n) (sym (r .hands)) g) (λ k. subst (Gone n) (sym (k .hands)) (gone-takes s y d g k)) (outcome f (offer s y d) z))
+  gone-stays (move t m) g =
+      ⊎-elim (λ r. (subst (NoneOf n) (sym (r .lines)) tt, subst (Gone n) (sym (r .hands)) g)) (λ k. gone-moves t m g k) (outcome f (move t m) z)
+
+-- No call after it issues a chunk of a job that has begun.
+pub gone-silent : (n : ℕ) (w : World) (cs : List Call) → Inv w → Gone n (w .farm) → Silent n (w .farm) cs
+gone-silent n w [] i g = tt
+gone-silent n w (c ∷ cs) i g =
+    let r = gone-stays n (w .farm) (i .sized) (i .passes) c g in
+    (r .0, gone-silent n (note w c) cs (note-inv w c i) (r .1))
+
+-- A job that begins by a move has begun after it.
+pub begun-gone : (f : Farm) (t : ℕ) (j : Job) → Sized f → passesOf f ≡ true → List·Memᴰ j (begun f t) → Gone (j .number) (movedFarm f t)
+begun-gone f t j z e m = record {
+  used = at-member (λ (i : Job). Waiting f i × (startsBy t i ≡ true)) m (begun-jobs f z e t) .0 .within .number .1;
+  none = subst (All (λ (i : Job). i .number ≡ j .number → ⊥)) (sym (moved-waiting f z e t)) (none-behind (begun f t) (left f t) (begun-differ f t z e) j m);
+}
+
+-- ---- The story
+
+-- accepted as x, it waits
+abbrev pub Among : Accepted → Farm → Type 0
+Among x f = List·Memᴰ x (map acceptedOf (waitingOf f))
+
+among-waits : (x : Accepted) (f : Farm) → Sized f → passesOf f ≡ true → Among x f → Waits x f
+among-waits x f z e m = let r = from-image acceptedOf (waitingOf f) m in waits-as f (r .it) x z e (r .among) (r .image)
+
+-- An accepted job waits on over an offer.
+among-takes : (x : Accepted) (f : Farm) (s y d : ℕ) → Sized f → Takes f s y d → Among x f → Among x (withPlan f (planned f s y d))
+among-takes x f s y d z k m =
+    let ws = waitingOf f in
+    let new = newJob f s y d ∷ [] in
+    let one : List·Memᴰ x (map acceptedOf (ws ++ new)) = subst (List·Memᴰ x) (sym (map-join acceptedOf ws new)) (mem-left (map acceptedOf new) m) in
+    let two : List·Memᴰ x (map acceptedOf (queueOf f s y d)) = perm-mem (Permᴰ·map acceptedOf (by-deadline-perm (ws ++ new))) one in
+    subst (λ (l : List Job). List·Memᴰ x (map acceptedOf l)) (sym (waiting-planned f s y d z (k .granted) (k .books)))
+    (subst (List·Memᴰ x) (sym (plan-accepted (termsOf f) (busyOf f) (queueOf f s y d))) two)
+
+among-offer : (x : Accepted) (f : Farm) (s y d : ℕ) → Sized f → Among x f → Among x (handed f (offer s y d))
+among-offer x f s y d z m =
+    ⊎-elim (λ r. subst (Among x) (sym (r .hands)) m) (λ k. subst (Among x) (sym (k .hands)) (among-takes x f s y d z k m)) (outcome f (offer s y d) z)
+
+-- the job begins by this move
+story-begins : (x : Accepted) (w : World) (t : ℕ) (ms : List Chunk) (cs : List Call) → Inv w → Moves (w .farm) t ms → List·Memᴰ x (map acceptedOf (begun (w .farm) t)) → Fate x (w .farm) (move t ms ∷ cs)
+story-begins x w t ms cs i k m =
+    let f = w .farm in
+    let r = from-image acceptedOf (begun f t) m in
+    let j = r .it in
+    let n : j .number ≡ x .number = ap (λ (y : Accepted). y .number) (r .image) in
+    let in′ : List·Memᴰ j (waitingOf f) = perm-mem (Permᴰ·symm (begun-left f t)) (mem-left (left f t) (r .among)) in
+    let by = at-member (λ (b : Job). Waiting f b × (startsBy t b ≡ true)) (r .among) (begun-jobs f (i .sized) (i .passes) t) .1 in
+    let own = lines-own (f .costs) (begun f t) j (front-differ (begun f t) (left f t) (begun-differ f t (i .sized) (i .passes))) (r .among) in
+    begins {c = move t ms} (waits-as f j x (i .sized) (i .passes) in′ (r .image)) (k .says, leb-true (j .booking .start) t by)
+    (ap (linesFor (x .number)) (k .lines) ∙ ap (λ (a : ℕ). linesFor a (spansOfAll (f .costs) (begun f t))) (sym n) ∙ own)
+    (gone-silent (x .number) (note w (move t ms)) cs (note-inv w (move t ms) i)
+    (subst (λ (a : ℕ). Gone a (handed f (move t ms))) n (subst (Gone (j .number)) (sym (k .hands)) (begun-gone f t j (i .sized) (i .passes) (r .among)))))
+
+-- the job waits on over this move
+story-passes : (x : Accepted) (w : World) (t : ℕ) (ms : List Chunk) (cs : List Call) → Inv w → Moves (w .farm) t ms → List·Memᴰ x (map acceptedOf (left (w .farm) t))
+    → (Among x (handed (w .farm) (move t ms)) → Fate x (handed (w .farm) (move t ms)) cs) → Fate x (w .farm) (move t ms ∷ cs)
+story-passes x w t ms cs i k m rest =
+    let f = w .farm in
+    let r = from-image acceptedOf (left f t) m in
+    let j = r .it in
+    let n : j .number ≡ x .number = ap (λ (y : Accepted). y .number) (r .image) in
+    let in′ : List·Memᴰ j (waitingOf f) = perm-mem (Permᴰ·symm (begun-left f t)) (mem-right (begun f t) (r .among)) in
+    let late = at-member (λ (b : Job). Waiting f b × (startsAfter t b ≡ true)) (r .among) (keep-all (startsAfter t) (Waiting f) (waitingOf f) (waiting-jobs f (i .sized) (i .passes))) .1 in
+    let none : NoneOf (j .number) (spansOfAll (f .costs) (begun f t)) =
+    none-of-jobs (f .costs) (j .number) (begun f t) (none-before (begun f t) (left f t) (begun-differ f t (i .sized) (i .passes)) j (r .among)) in
+    passes {c = move t ms} (waits-as f j x (i .sized) (i .passes) in′ (r .image)) (λ q. omega (arith, q .1, leb-false (j .booking .start) t (not-true (startsBy t j) late)))
+    (subst (λ (a : ℕ). NoneOf a (linesBy f (move t ms))) n (subst (NoneOf (j .number)) (sym (k .lines)) none))
+    (rest (subst (Among x) (sym (k .hands)) (subst (λ (l : List Job). List·Memᴰ x (map acceptedOf l)) (sym (moved-waiting f (i .sized) (i .passes) t)) m)))
+
+-- Each job that waits is issued by the first granted clock move to reach the start it has then, and never again.
+pub story : (x : Accepted) (w : World) (cs : List Call) → Inv w → Among x (w .farm) → Fate x (w .farm) cs
+story x w [] i m = waits (among-waits x (w .farm) (i .sized) (i .passes) m)
+story x w (offer s y d ∷ cs) i m =
+    passes {c = offer s y d} (among-waits x (w .farm) (i .sized) (i .passes) m) (λ q. q) tt
+    (story x (note w (offer s y d)) cs (note-inv w (offer s y d) i) (among-offer x (w .farm) s y d (i .sized) m))
+story x w (move t ms ∷ cs) i m = go (λ h. story x (note w (move t ms)) cs (note-inv w (move t ms) i) h) (outcome (w .farm) (move t ms) (i .sized))
+  where
+    go : (Among x (handed (w .farm) (move t ms)) → Fate x (handed (w .farm) (move t ms)) cs) → Refused (w .farm) (move t ms) ⊎ Moves (w .farm) t ms → Fate x (w .farm) (move t ms ∷ cs)
+    go rest (inl r) =
+        passes {c = move t ms} (among-waits x (w .farm) (i .sized) (i .passes) m) (λ q. false≢true (sym (r .says) ∙ q .0)) (subst (NoneOf (x .number)) (sym (r .lines)) tt) (rest (subst (Among x) (sym (r .hands)) m))
+    go rest (inr k) =
+        ⊎-elim (λ h. story-begins x w t ms cs i k h) (λ h. story-passes x w t ms cs i k h rest)
+        (List·Memᴰ·append-cases (map acceptedOf (begun (w .farm) t))
+        (subst (List·Memᴰ x) (map-join acceptedOf (begun (w .farm) t) (left (w .farm) t)) (perm-mem (Permᴰ·map acceptedOf (begun-left (w .farm) t)) m)))

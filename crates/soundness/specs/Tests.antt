@@ -1,0 +1,319 @@
+-- What each turn of the loops keeps, and that no sum wraps.
+use Prim.Native.Nat.{ℕ, suc, max, _+_, _*_, _-_, _≤_, _<_}
+use mathlib.Core.Path.{_≡_, refl, ap, subst, _∙_}
+use mathlib.Core.List.{List, [], _∷_, _++_, map}
+use mathlib.Core.Bool.{Bool, true, false, _&&_, not, and-false}
+use native.Mathlib.Numerals.{add-one}
+use native.Mathlib.Omega.{arith}
+use native.Mathlib.Nat.{mul-le-mul-left}
+use borrow.Author.Tests.{leb-true, leb-false, le-leb, lt-leb, eq-eqb, ne-eqb}
+use lib.Dec.{leb, eqb}
+use lib.ListN.{length, getD, take, drop, set, length-drop}
+use lib.Seq.{slice, slice-cons, slice-empty, take-all, take-suc, take-suc-set, drop-cons, drop-length, getD-take, length-take-le}
+use Rattle.lists.specs.Laws.{All, Differ, all-nth}
+use Rattle.shares.specs.declared.Costs.{Costs}
+use Rattle.shares.specs.Model.{sendEnd, chunkFinish, finish, sum}
+use Rattle.limits.specs.Model.{between, allAtMost, allAtLeast}
+use Rattle.limits.specs.Says.{Says, says-not-eq, says-both}
+use Rattle.limits.specs.Tests.{and-both, at-most-at}
+use Rattle.keys.specs.declared.Key.{Key}
+use Rattle.keys.specs.Model.{noKey, sortKeys, sortedFront}
+use Rattle.booking.specs.declared.Booking.{Booking}
+use Rattle.booking.specs.Best.{freeAt, chosen, units}
+use Rattle.walk.specs.declared.Job.{Job}
+use Rattle.walk.specs.declared.Busy.{Busy}
+use Rattle.walk.specs.declared.Chunk.{Chunk}
+use Rattle.walk.specs.Model.{greatest, noJob, chunksFrom, Span, spansOf, spansOfAll, keysBy, startOf, byStart, inOrder, fitAll}
+use Rattle.walk.specs.Rows.{order-is, order-within}
+use Rattle.soundness.specs.declared.Figures.{Figures}
+use Rattle.soundness.specs.declared.Fit.{Fit}
+use Rattle.soundness.specs.Model.{noneOf, allDiffer, nodesKnown, sharesKept, offerWithin, headFront, headWithin, jobPasses, allPass, numbersOf, Usable, Calm, Inside, Swept}
+
+-- 2^32 - 1 units at a million ticks each
+pub product-small : (u e : ℕ) → u < 4294967296 → e ≤ 1000000 → u * e ≤ 4294967295000000
+product-small u e h k =
+    let p : u * e ≤ u * 1000000 = mul-le-mul-left u k in
+    omega arith
+
+-- ---- The nodes of a booking
+
+module _ (b : ℕ) (ks : List ℕ) (i n : ℕ) (h : i < n) (k : n ≤ length ks) where
+  known-cons : nodesKnown b (slice i n ks) ≡ leb 1 (getD ks i 0) && allAtLeast 1 (slice (i + 1) n ks) && (leb (getD ks i 0) b && allAtMost b (slice (i + 1) n ks))
+  unfolding allAtMost allAtLeast
+  known-cons = rw (add-one, slice-cons i n ks 0 h k)
+
+  pub known-more : 1 ≤ getD ks i 0 → getD ks i 0 ≤ b → nodesKnown b (slice i n ks) ≡ nodesKnown b (slice (i + 1) n ks)
+  known-more l m = known-cons ∙ rw (le-leb 1 (getD ks i 0) l, le-leb (getD ks i 0) b m)
+
+  pub known-low : getD ks i 0 < 1 → nodesKnown b (slice i n ks) ≡ false
+  known-low l = known-cons ∙ rw (lt-leb 1 (getD ks i 0) l)
+
+  pub known-high : b < getD ks i 0 → nodesKnown b (slice i n ks) ≡ false
+  known-high l = known-cons ∙ rw (lt-leb (getD ks i 0) b l, and-false)
+
+pub known-none : (b : ℕ) (ks : List ℕ) (n : ℕ) → nodesKnown b (slice n n ks) ≡ true
+unfolding allAtMost allAtLeast
+known-none b ks n = rw (slice-empty n ks)
+
+-- ---- The shares of a booking
+
+max-leb : (a b d : ℕ) → a ≤ d → leb (max a b) d ≡ leb b d
+max-leb a b d h = go (leb b d) refl
+  where
+    go : (t : Bool) → leb b d ≡ t → leb (max a b) d ≡ t
+    go true e = le-leb (max a b) d (omega (arith, leb-true b d e))
+    go false e = lt-leb (max a b) d (omega (arith, leb-false b d e))
+
+module _ (c : Costs) (z d s t : ℕ) (a : ℕ) (xs : List ℕ) where
+  kept-more : 1 ≤ a → chunkFinish c t a ≤ d → sharesKept c z d s t (a ∷ xs) ≡ sharesKept c z d (s + a) (sendEnd c t a) xs
+  unfolding sharesKept allAtLeast sum finish
+  kept-more h l =
+      let e : s + (a + sum xs) ≡ s + a + sum xs = omega arith in
+      rw (le-leb 1 a h, e, max-leb (chunkFinish c t a) (finish c (sendEnd c t a) xs) d l)
+
+  kept-small : a < 1 → sharesKept c z d s t (a ∷ xs) ≡ false
+  unfolding sharesKept allAtLeast
+  kept-small h = rw (lt-leb 1 a h)
+
+  kept-late : d < chunkFinish c t a → sharesKept c z d s t (a ∷ xs) ≡ false
+  unfolding sharesKept finish
+  kept-late h =
+      let e : leb (max (chunkFinish c t a) (finish c (sendEnd c t a) xs)) d ≡ false = lt-leb _ d (omega arith) in
+      rw (e, and-false)
+
+-- The same of what is left of an array.
+module _ (c : Costs) (z d s t : ℕ) (us : List ℕ) (i n : ℕ) (h : i < n) (k : n ≤ length us) where
+  pub shares-more : 1 ≤ getD us i 0 → chunkFinish c t (getD us i 0) ≤ d
+      → sharesKept c z d s t (slice i n us) ≡ sharesKept c z d (s + getD us i 0) (sendEnd c t (getD us i 0)) (slice (i + 1) n us)
+  shares-more l m = rw (add-one, slice-cons i n us 0 h k) (kept-more c z d s t (getD us i 0) (slice (suc i) n us) l m)
+
+  pub shares-small : getD us i 0 < 1 → sharesKept c z d s t (slice i n us) ≡ false
+  shares-small l = rw (slice-cons i n us 0 h k) (kept-small c z d s t (getD us i 0) (slice (suc i) n us) l)
+
+  pub shares-late : d < chunkFinish c t (getD us i 0) → sharesKept c z d s t (slice i n us) ≡ false
+  shares-late l = rw (slice-cons i n us 0 h k) (kept-late c z d s t (getD us i 0) (slice (suc i) n us) l)
+
+  -- The same with what the code works out.
+  pub shares-step : (a sent ends : ℕ) → a ≡ getD us i 0 → sent ≡ sendEnd c t a → ends ≡ sent + (c .node + a * c .compute) → 1 ≤ a → ends ≤ d
+      → sharesKept c z d s t (slice i n us) ≡ sharesKept c z d (s + a) sent (slice (i + 1) n us)
+  shares-step a sent ends e f g l m = rw (f, e) (shares-more (rw e at l) (rw (g, f, e) at m))
+
+  pub shares-over : (a sent ends : ℕ) → a ≡ getD us i 0 → sent ≡ sendEnd c t a → ends ≡ sent + (c .node + a * c .compute) → d < ends
+      → sharesKept c z d s t (slice i n us) ≡ false
+  shares-over a sent ends e f g m = shares-late (rw (g, f, e) at m)
+
+pub shares-none : (c : Costs) (z d s t : ℕ) (us : List ℕ) (n : ℕ) → sharesKept c z d s t (slice n n us) ≡ eqb s z && leb t d
+unfolding sharesKept allAtLeast sum finish
+shares-none c z d s t us n = let e : s + 0 ≡ s = omega arith in rw (slice-empty n us, e)
+
+-- ---- The jobs
+
+-- A job within its limits has sums that do not wrap.
+pub calm-of : (g : Figures) (j : Job) → Usable g → headWithin g j ≡ true → Calm (g .costs) j
+unfolding headWithin
+calm-of g j u e =
+    let p = and-both (headFront g j) (nodesKnown (g .nodes) (chosen (j .booking))) e in
+    let q = and-both (offerWithin g j && leb (j .booking .start) greatest) (between 1 (j .booking .count) 64) (p .0) in
+    let r = and-both (offerWithin g j) (leb (j .booking .start) greatest) (q .0) in
+    let low : allAtMost (g .nodes) (chosen (j .booking)) ≡ true = and-both (allAtLeast 1 (chosen (j .booking))) _ (p .1) .1 in
+    record {
+      costs = u .costs;
+      start = leb-true _ _ (r .1);
+      count = leb-true _ _ (and-both (leb 1 (j .booking .count)) _ (q .1) .1);
+      nodes = λ i h. omega (arith, u .nodes, at-most-at (g .nodes) (chosen (j .booking)) i low, getD-take (j .booking .count) (j .booking .nodes) i 0 h);
+    }
+
+-- A job's test ends at the first part that fails.
+pub job-out : (g : Figures) (j : Job) → headWithin g j ≡ false → jobPasses g j ≡ false
+unfolding jobPasses
+job-out g j e = rw e
+
+pub job-early : (g : Figures) (j : Job) → j .booking .start < g .clock → jobPasses g j ≡ false
+unfolding jobPasses
+job-early g j h = rw (lt-leb (g .clock) (j .booking .start) h, and-false)
+
+pub job-whole : (g : Figures) (j : Job) → headWithin g j ≡ true → g .clock ≤ j .booking .start
+    → jobPasses g j ≡ sharesKept (g .costs) (j .size) (j .deadline) 0 (j .booking .start) (units (j .booking))
+unfolding jobPasses
+job-whole g j e h = rw (e, le-leb (g .clock) (j .booking .start) h)
+
+pub calm-all : (g : Figures) (js : List Job) → Usable g → allPass g js ≡ true → All (Calm (g .costs)) js
+unfolding allPass jobPasses
+calm-all g [] u e = tt
+calm-all g (j ∷ js) u e =
+    let p = and-both (headWithin g j && _) (allPass g js) e in
+    (calm-of g j u (and-both (headWithin g j) _ (p .0) .0), calm-all g js u (p .1))
+
+module _ (g : Figures) (jobs : List Job) (i n : ℕ) (h : i < n) (k : n ≤ length jobs) where
+  pass-cons : allPass g (slice i n jobs) ≡ jobPasses g (getD jobs i noJob) && allPass g (slice (i + 1) n jobs)
+  unfolding allPass
+  pass-cons = rw (add-one, slice-cons i n jobs noJob h k)
+
+  pub pass-more : jobPasses g (getD jobs i noJob) ≡ true → allPass g (slice i n jobs) ≡ allPass g (slice (i + 1) n jobs)
+  pass-more e = pass-cons ∙ rw e
+
+  pub pass-stop : jobPasses g (getD jobs i noJob) ≡ false → allPass g (slice i n jobs) ≡ false
+  pass-stop e = pass-cons ∙ rw e
+
+pub pass-none : (g : Figures) (jobs : List Job) (n : ℕ) → allPass g (slice n n jobs) ≡ true
+unfolding allPass
+pass-none g jobs n = rw (slice-empty n jobs)
+
+-- ---- The numbers
+
+numbers-snoc : (xs : List Job) (j : Job) → numbersOf (xs ++ j ∷ []) ≡ numbersOf xs ++ j .number ∷ []
+numbers-snoc [] j = refl
+numbers-snoc (x ∷ xs) j = ap (λ (s : List ℕ). x .number ∷ s) (numbers-snoc xs j)
+
+-- One number more is written.
+pub numbers-more : (jobs : List Job) (out : List ℕ) (i : ℕ) → i < length jobs → i < length out → take i out ≡ numbersOf (take i jobs)
+    → take (i + 1) (set out i (getD jobs i noJob .number)) ≡ numbersOf (take (i + 1) jobs)
+numbers-more jobs out i h k e =
+    rw (add-one, take-suc-set out i (getD jobs i noJob .number) k, take-suc jobs i noJob h, e, numbers-snoc (take i jobs) (getD jobs i noJob))
+
+module _ (x : ℕ) (xs : List ℕ) (i : ℕ) (h : i < length xs) where
+  none-cons : noneOf x (drop i xs) ≡ not (eqb x (getD xs i 0)) && noneOf x (drop (i + 1) xs)
+  unfolding noneOf
+  none-cons = rw (add-one, drop-cons xs i 0 h)
+
+  pub none-more : (x ≡ getD xs i 0 → ⊥) → noneOf x (drop i xs) ≡ noneOf x (drop (i + 1) xs)
+  none-more l = none-cons ∙ rw (ne-eqb x (getD xs i 0) l)
+
+  pub none-stop : x ≡ getD xs i 0 → noneOf x (drop i xs) ≡ false
+  none-stop l = none-cons ∙ rw (eq-eqb x (getD xs i 0) l)
+
+pub none-none : (x : ℕ) (xs : List ℕ) → noneOf x (drop (length xs) xs) ≡ true
+unfolding noneOf
+none-none x xs = rw (drop-length xs)
+
+module _ (xs : List ℕ) (i : ℕ) (h : i < length xs) where
+  differ-cons : allDiffer (drop i xs) ≡ noneOf (getD xs i 0) (drop (i + 1) xs) && allDiffer (drop (i + 1) xs)
+  unfolding allDiffer
+  differ-cons = rw (add-one, drop-cons xs i 0 h)
+
+  pub differ-more : noneOf (getD xs i 0) (drop (i + 1) xs) ≡ true → allDiffer (drop i xs) ≡ allDiffer (drop (i + 1) xs)
+  differ-more e = differ-cons ∙ rw e
+
+  pub differ-stop : noneOf (getD xs i 0) (drop (i + 1) xs) ≡ false → allDiffer (drop i xs) ≡ false
+  differ-stop e = differ-cons ∙ rw e
+
+-- All of what lies behind a place.
+pub part-rest : (xs : List ℕ) (k : ℕ) → take (length xs - k) (drop k xs) ≡ drop k xs
+part-rest xs k = take-all (length xs - k) (drop k xs) (omega (arith, length-drop k xs))
+
+pub differ-none : (xs : List ℕ) → allDiffer (drop (length xs) xs) ≡ true
+unfolding allDiffer
+differ-none xs = rw (drop-length xs)
+
+says-none-of : (x : ℕ) (ys : List ℕ) → Says (noneOf x ys) (All (λ (y : ℕ). x ≡ y → ⊥) ys)
+unfolding noneOf
+says-none-of x [] = record { yields = λ e. tt; follows = λ h. refl }
+says-none-of x (y ∷ ys) = says-both (says-not-eq x y) (says-none-of x ys)
+
+-- The test that all differ says so of each two.
+pub says-differ : (xs : List ℕ) → Says (allDiffer xs) (Differ xs)
+unfolding allDiffer
+says-differ [] = record { yields = λ e. tt; follows = λ h. refl }
+says-differ (x ∷ xs) = says-both (says-none-of x xs) (says-differ xs)
+
+-- ---- The chunks of a job behind the free times
+
+-- the spans of shares on nodes, from t on, of a job that starts at p
+abbrev pub spansFrom : Costs → ℕ → ℕ → ℕ → ℕ → List ℕ → List ℕ → List Span
+spansFrom c n s p t ks us = map (λ (x : Chunk). record { from = p; chunk = x }) (chunksFrom c n s t ks us)
+
+-- what a chunk of `a` units that is sent from t on to node k leaves
+abbrev pub sentTo : Costs → Busy → ℕ → ℕ → ℕ → Busy
+sentTo c b t k a = record { link = sendEnd c t a; free = set (b .free) (k - 1) (chunkFinish c t a) }
+
+span-cons : (c : Costs) (n s p : ℕ) (b : Busy) (t k a : ℕ) (ks us : List ℕ) (xs : List Span)
+    → fitAll b (spansFrom c n s p t (k ∷ ks) (a ∷ us) ++ xs) ≡ leb (b .link) t && leb (freeAt (b .free) k) p && fitAll (sentTo c b t k a) (spansFrom c n s p (sendEnd c t a) ks us ++ xs)
+unfolding chunksFrom fitAll
+span-cons c n s p b t k a ks us xs = refl
+
+module _ (c : Costs) (n s p : ℕ) (b : Busy) (t : ℕ) (ks us : List ℕ) (xs : List Span) (i m : ℕ) (h : i < m) (k : m ≤ length ks) (l : m ≤ length us) where
+  spans-cons : fitAll b (spansFrom c n s p t (slice i m ks) (slice i m us) ++ xs)
+      ≡ leb (b .link) t && leb (freeAt (b .free) (getD ks i 0)) p && fitAll (sentTo c b t (getD ks i 0) (getD us i 0)) (spansFrom c n s p (sendEnd c t (getD us i 0)) (slice (i + 1) m ks) (slice (i + 1) m us) ++ xs)
+  spans-cons =
+      rw (add-one, slice-cons i m ks 0 h k, slice-cons i m us 0 h l)
+      (span-cons c n s p b t (getD ks i 0) (getD us i 0) (slice (suc i) m ks) (slice (suc i) m us) xs)
+
+  pub spans-more : b .link ≤ t → freeAt (b .free) (getD ks i 0) ≤ p
+      → fitAll b (spansFrom c n s p t (slice i m ks) (slice i m us) ++ xs) ≡ fitAll (sentTo c b t (getD ks i 0) (getD us i 0)) (spansFrom c n s p (sendEnd c t (getD us i 0)) (slice (i + 1) m ks) (slice (i + 1) m us) ++ xs)
+  spans-more u v = spans-cons ∙ rw (le-leb (b .link) t u, le-leb (freeAt (b .free) (getD ks i 0)) p v)
+
+  pub spans-link : t < b .link → fitAll b (spansFrom c n s p t (slice i m ks) (slice i m us) ++ xs) ≡ false
+  spans-link u = spans-cons ∙ rw (lt-leb (b .link) t u)
+
+  pub spans-node : p < freeAt (b .free) (getD ks i 0) → fitAll b (spansFrom c n s p t (slice i m ks) (slice i m us) ++ xs) ≡ false
+  spans-node u = spans-cons ∙ rw (lt-leb (freeAt (b .free) (getD ks i 0)) p u, and-false)
+
+pub spans-none : (c : Costs) (n s p t : ℕ) (ks us : List ℕ) (m : ℕ) (xs : List Span) → spansFrom c n s p t (slice m m ks) (slice m m us) ++ xs ≡ xs
+unfolding chunksFrom
+spans-none c n s p t ks us m xs = rw (slice-empty m ks, slice-empty m us)
+
+-- Of a booking's chunks those from the i-th on are left, behind `now`, the next one sent from t on: whether all fit behind `busy` is whether
+-- these fit behind `now`, whatever follows.
+pub record Unswept (c : Costs) (busy : Busy) (b : Booking) (now : Busy) (t i : ℕ) : Type 0 where
+  pub rest : (n s : ℕ) (xs : List Span)
+      → fitAll busy (spansFrom c n s (b .start) (b .start) (chosen b) (units b) ++ xs) ≡ fitAll now (spansFrom c n s (b .start) t (slice i (b .count) (b .nodes)) (slice i (b .count) (b .shares)) ++ xs)
+
+pub unswept-start : (c : Costs) (busy : Busy) (b : Booking) → Unswept c busy b busy (b .start) 0
+unswept-start c busy b = record { rest = λ n s xs. refl }
+
+module _ (c : Costs) (busy : Busy) (b : Booking) (now : Busy) (t i : ℕ) (u : Unswept c busy b now t i) (h : i < b .count) (k : b .count ≤ length (b .nodes)) (l : b .count ≤ length (b .shares)) where
+  -- The next chunk fits.
+  pub unswept-more : now .link ≤ t → freeAt (now .free) (getD (b .nodes) i 0) ≤ b .start
+      → Unswept c busy b (sentTo c now t (getD (b .nodes) i 0) (getD (b .shares) i 0)) (sendEnd c t (getD (b .shares) i 0)) (i + 1)
+  unswept-more p q = record { rest = λ n s xs. u .rest n s xs ∙ spans-more c n s (b .start) now t (b .nodes) (b .shares) xs i (b .count) h k l p q }
+
+  -- The same with what the code works out.
+  pub unswept-step : (place a sent ends : ℕ) → place ≡ getD (b .nodes) i 0 - 1 → a ≡ getD (b .shares) i 0 → sent ≡ sendEnd c t a → ends ≡ sent + (c .node + a * c .compute)
+      → now .link ≤ t → getD (now .free) place 0 ≤ b .start → Unswept c busy b (record { link = sent; free = set (now .free) place ends }) sent (i + 1)
+  unswept-step place a sent ends d e f g p q = rw (g, f, e, d) (unswept-more p (rw d at q))
+
+  -- Its send overlaps.
+  pub unswept-link : (r : Fit) (j : Job) → r .fits ≡ false → j .booking ≡ b → t < now .link → Swept c busy j r
+  unswept-link r j e o p = record {
+    rest = λ xs. rw (o, e) (u .rest (j .number) (j .show) xs ∙ spans-link c (j .number) (j .show) (b .start) now t (b .nodes) (b .shares) xs i (b .count) h k l p);
+  }
+
+  -- Its node is not free.
+  pub unswept-node : (r : Fit) (j : Job) → r .fits ≡ false → j .booking ≡ b → b .start < freeAt (now .free) (getD (b .nodes) i 0) → Swept c busy j r
+  unswept-node r j e o p = record {
+    rest = λ xs. rw (o, e) (u .rest (j .number) (j .show) xs ∙ spans-node c (j .number) (j .show) (b .start) now t (b .nodes) (b .shares) xs i (b .count) h k l p);
+  }
+
+-- All chunks fit.
+pub unswept-none : (c : Costs) (busy : Busy) (j : Job) (now : Busy) (t i : ℕ) → Unswept c busy (j .booking) now t i → i ≡ j .booking .count
+    → Swept c busy j (record { fits = true; busy = now })
+unswept-none c busy j now t i u e =
+    let b = j .booking in
+    record { rest = λ xs. u .rest (j .number) (j .show) xs ∙ rw (e, spans-none c (j .number) (j .show) (b .start) t (b .nodes) (b .shares) (b .count) xs) }
+
+-- ---- The jobs by their starts
+
+module _ (c : Costs) (b : Busy) (jobs : List Job) (keys : List Key) (i n : ℕ) (h : i < n) (few : n ≤ length jobs) (fits : n ≤ length keys) (inside : All (Inside n) (take n keys)) where
+  pub key-inside : getD keys i noKey .place < n
+  key-inside =
+      subst (Inside n) (getD-take n keys i noKey h) (all-nth noKey (Inside n) (take n keys) i inside (omega (arith, length-take-le n keys fits)))
+
+  pub key-calm : All (Calm c) (take n jobs) → Calm c (getD jobs (getD keys i noKey .place) noJob)
+  key-calm a =
+      subst (Calm c) (getD-take n jobs (getD keys i noKey .place) noJob key-inside) (all-nth noJob (Calm c) (take n jobs) (getD keys i noKey .place) a (omega (arith, length-take-le n jobs few, key-inside)))
+
+  turn-cons : spansOfAll c (inOrder (take n jobs) (slice i n keys))
+      ≡ spansOf c (getD jobs (getD keys i noKey .place) noJob) ++ spansOfAll c (inOrder (take n jobs) (slice (i + 1) n keys))
+  unfolding spansOfAll
+  turn-cons = rw (add-one, slice-cons i n keys noKey h fits, getD-take n jobs (getD keys i noKey .place) noJob key-inside)
+
+  module _ (r : Fit) (s : Swept c b (getD jobs (getD keys i noKey .place) noJob) r) where
+    pub turn-more : r .fits ≡ true → fitAll b (spansOfAll c (inOrder (take n jobs) (slice i n keys))) ≡ fitAll (r .busy) (spansOfAll c (inOrder (take n jobs) (slice (i + 1) n keys)))
+    turn-more e = ap (fitAll b) turn-cons ∙ s .rest _ ∙ rw e
+
+    pub turn-stop : r .fits ≡ false → fitAll b (spansOfAll c (inOrder (take n jobs) (slice i n keys))) ≡ false
+    turn-stop e = ap (fitAll b) turn-cons ∙ s .rest _ ∙ rw e
+
+pub turn-none : (c : Costs) (b : Busy) (js : List Job) (keys : List Key) (n : ℕ) → fitAll b (spansOfAll c (inOrder js (slice n n keys))) ≡ true
+unfolding fitAll spansOfAll
+turn-none c b js keys n = rw (slice-empty n keys)

@@ -1,0 +1,302 @@
+// Question 11 asked of the waiting jobs: each by itself against a few figures, their numbers, and all of them behind one another.
+// It knows no farm. Nothing is taken for granted of a job: what could make a sum wrap is tested before the sum is made.
+// What each function means is in specs/Model.antt.
+ghost use mathlib.Core.Path.{_≡_};
+ghost use Prim.Native.Nat.{_+_, _*_, _-_, _≤_, _<_};
+ghost use lib.ListN.{take};
+ghost use Rattle.lists.specs.Laws.{All};
+ghost use Rattle.shares.specs.Model.{sendEnd};
+ghost use Rattle.limits.specs.Model.{CostsWithin};
+ghost use Rattle.booking.specs.Best.{units};
+ghost use Rattle.walk.specs.Model.{keysBy, startOf, byStart, spansOfAll, inOrder, fitAll};
+ghost use Rattle.soundness.specs.Model.{noneOf, allDiffer, nodesKnown, sharesKept, headWithin, jobPasses, allPass, Usable, Calm, Inside, Surveys, Swept};
+use keys::Key;
+use limits::and;
+use limits::at_most;
+use limits::between;
+use limits::least;
+use limits::wide;
+use shares::Costs;
+use walk::Busy;
+use walk::Job;
+
+// What each waiting job is held against.
+pub struct Figures {
+    pub nodes: usize,
+    pub shows: usize,
+    pub used: u64,
+    pub clock: u64,
+    pub costs: Costs,
+}
+
+// Whether each job passes by itself and, if so, the jobs' numbers and their keys by start.
+pub struct Survey {
+    pub passes: bool,
+    pub numbers: [u64; 128],
+    pub keys: [Key; 128],
+}
+
+// Whether a job's chunks fit behind what came before them, and the free times after them.
+pub struct Fit {
+    pub fits: bool,
+    pub busy: Busy,
+}
+
+// ---- Widths
+
+fn wide32(x: u32) -> u64
+    ensures { λ r. ⌜ (r ≡ x) × (r < 4294967296) ⌝ }
+{
+    x as u64
+}
+
+fn wide8(x: u8) -> usize
+    ensures { λ r. ⌜ r ≡ x ⌝ }
+{
+    x as usize
+}
+
+// ---- A job by itself
+
+// Whether the first `count` nodes are numbers from 1 to `limit`.
+fn nodes_known(nodes: [u8; 64], count: usize, limit: usize) -> bool
+    ensures { λ r. ⌜ r ≡ nodesKnown limit (take count nodes) ⌝ }
+{
+    let n = least(count, 64);
+    let mut i = 0;
+    while i < n {
+        let node = wide8(nodes[i]);
+        if node < 1 {
+            return false;
+        }
+        if limit < node {
+            return false;
+        }
+        i += 1;
+    }
+    true
+}
+
+fn job_within(figures: Figures, job: Job) -> bool
+    ensures { λ r. ⌜ r ≡ headWithin figures job ⌝ }
+{
+    let b = job.booking;
+    let nodes = b.nodes;
+    let named = and(
+        between(1, job.number, figures.used),
+        between(1, job.show, wide(figures.shows)),
+    );
+    let sized = and(named, between(1, wide32(job.size), 1_000_000));
+    let timed = and(
+        and(sized, at_most(job.deadline, 1_000_000_000_000)),
+        at_most(b.start, 1_000_000_000_000),
+    );
+    and(
+        and(timed, between(1, wide(b.count), 64)),
+        nodes_known(nodes, b.count, figures.nodes),
+    )
+}
+
+// What `units` units cost at `each` ticks a unit, with the setup. The one product: that it cannot wrap is shown here.
+fn cost(setup: u64, units: u64, each: u64) -> u64
+    requires { ⌜ (setup ≤ 1000000) × (units < 4294967296) × (each ≤ 1000000) ⌝ }
+    ensures { λ r. ⌜ (r ≡ setup + units * each) × (r ≤ 4294968000000000) ⌝ }
+{
+    setup + units * each
+}
+
+// When the send that begins at `from` has ended.
+fn send_end(costs: Costs, from: u64, units: u64) -> u64
+    requires { ⌜ CostsWithin costs × (from ≤ 300000000000000000) × (units < 4294967296) ⌝ }
+    ensures { λ r. ⌜ (r ≡ sendEnd costs from units) × (r ≤ from + 4294968000000000) ⌝ }
+{
+    from + cost(costs.link, units, costs.send)
+}
+
+// When the chunk whose send has ended at `sent` has finished.
+fn chunk_end(costs: Costs, sent: u64, units: u64) -> u64
+    requires { ⌜ CostsWithin costs × (sent ≤ 400000000000000000) × (units < 4294967296) ⌝ }
+    ensures { λ r. ⌜ r ≡ sent + (costs .node + units * costs .compute) ⌝ }
+{
+    sent + cost(costs.node, units, costs.compute)
+}
+
+// Whether the shares are at least 1 each and add up to the size, and each chunk finishes by the deadline.
+fn shares_kept(costs: Costs, job: Job) -> bool
+    requires { ⌜ Calm costs job ⌝ }
+    ensures { λ r. ⌜ r ≡ sharesKept costs (job .size) (job .deadline) 0 (job .booking .start) (units (job .booking)) ⌝ }
+{
+    let b = job.booking;
+    let mut total: u64 = 0;
+    let mut from = b.start;
+    let mut i = 0;
+    while i < b.count {
+        let units = wide32(b.shares[i]);
+        let sent = send_end(costs, from, units);
+        if units < 1 {
+            return false;
+        }
+        if job.deadline < chunk_end(costs, sent, units) {
+            return false;
+        }
+        total += units;
+        from = sent;
+        i += 1;
+    }
+    and(total == wide32(job.size), from <= job.deadline)
+}
+
+fn job_passes(figures: Figures, job: Job) -> bool
+    requires { ⌜ Usable figures ⌝ }
+    ensures { λ r. ⌜ r ≡ jobPasses figures job ⌝ }
+{
+    if !job_within(figures, job) {
+        return false;
+    }
+    let b = job.booking;
+    if b.start < figures.clock {
+        return false;
+    }
+    shares_kept(figures.costs, job)
+}
+
+// Each of the first `count` jobs by itself, and on the way their numbers and their keys by start: the jobs are gone through once.
+pub fn surveyed(figures: Figures, jobs: [Job; 128], count: usize) -> Survey
+    requires { ⌜ Usable figures × (count ≤ 128) ⌝ }
+    ensures { λ r. ⌜ Surveys figures (take count jobs) count r ⌝ }
+{
+    let mut numbers = [0u64; 128];
+    let mut keys = [Key {
+        time: 0,
+        number: 0,
+        place: 0,
+    }; 128];
+    let mut i = 0;
+    while i < count {
+        let job = jobs[i];
+        if !job_passes(figures, job) {
+            return Survey {
+                passes: false,
+                numbers,
+                keys,
+            };
+        }
+        let booking = job.booking;
+        let number = job.number;
+        numbers[i] = number;
+        keys[i] = Key {
+            time: booking.start,
+            number,
+            place: i,
+        };
+        i += 1;
+    }
+    Survey {
+        passes: true,
+        numbers,
+        keys,
+    }
+}
+
+// ---- The jobs' numbers
+
+fn none_of(x: u64, xs: &[u64]) -> bool
+    ensures { λ r. ⌜ r ≡ noneOf x (now (xs .entry)) ⌝ }
+{
+    let mut i = 0;
+    while i < xs.len() {
+        if x == xs[i] {
+            return false;
+        }
+        i += 1;
+    }
+    true
+}
+
+pub fn all_differ(xs: &[u64]) -> bool
+    ensures { λ r. ⌜ r ≡ allDiffer (now (xs .entry)) ⌝ }
+{
+    let n = xs.len();
+    let mut i = 0;
+    while i < n {
+        let next = i + 1;
+        if !none_of(xs[i], &xs[next..n]) {
+            return false;
+        }
+        i = next;
+    }
+    true
+}
+
+// ---- The jobs behind one another
+
+// Where the free time of a node stands.
+fn place_of(node: u8) -> usize
+    ensures { λ r. ⌜ r ≡ node - 1 ⌝ }
+{
+    if node < 1 {
+        return 0;
+    }
+    (node - 1) as usize
+}
+
+// The chunks of a job, each behind what those before it have left.
+fn job_fits(costs: Costs, busy: Busy, job: Job) -> Fit
+    requires { ⌜ Calm costs job ⌝ }
+    ensures { λ r. ⌜ Swept costs busy job r ⌝ }
+{
+    let b = job.booking;
+    let mut link = busy.link;
+    let mut free = busy.free;
+    let mut from = b.start;
+    let mut i = 0;
+    while i < b.count {
+        let place = place_of(b.nodes[i]);
+        if from < link {
+            return Fit { fits: false, busy };
+        }
+        if b.start < free[place] {
+            return Fit { fits: false, busy };
+        }
+        let units = wide32(b.shares[i]);
+        let sent = send_end(costs, from, units);
+        let finish = chunk_end(costs, sent, units);
+        free[place] = finish;
+        link = sent;
+        from = sent;
+        i += 1;
+    }
+    Fit {
+        fits: true,
+        busy: Busy { link, free },
+    }
+}
+
+// The jobs in the order of the keys, each behind those before it.
+fn jobs_fit(costs: Costs, busy: Busy, jobs: [Job; 128], keys: [Key; 128], count: usize) -> bool
+    requires { ⌜ (count ≤ 128) × All (Calm costs) (take count jobs) × All (Inside count) (take count keys) ⌝ }
+    ensures { λ r. ⌜ r ≡ fitAll busy (spansOfAll costs (inOrder (take count jobs) (take count keys))) ⌝ }
+{
+    let mut now_busy = busy;
+    let mut i = 0;
+    while i < count {
+        let key = keys[i];
+        let place = key.place;
+        let fit = job_fits(costs, now_busy, jobs[place]);
+        if !fit.fits {
+            return false;
+        }
+        now_busy = fit.busy;
+        i += 1;
+    }
+    true
+}
+
+// The jobs by their starts, one after the other. They mostly stand in that order already.
+pub fn in_turn(costs: Costs, busy: Busy, jobs: [Job; 128], keys: [Key; 128], count: usize) -> bool
+    requires { ⌜ (count ≤ 128) × All (Calm costs) (take count jobs) × (take count keys ≡ keysBy startOf 0 (take count jobs)) ⌝ }
+    ensures { λ r. ⌜ r ≡ fitAll busy (spansOfAll costs (byStart (take count jobs))) ⌝ }
+{
+    let order = keys::sorted(keys, count);
+    jobs_fit(costs, busy, jobs, order, count)
+}

@@ -1,0 +1,68 @@
+-- `timetable::begin::occupied_by` meets its contract: the jobs left, behind those passed, leave what all of them leave.
+use mathlib.Core.Path.{_≡_, refl, sym, _∙_}
+use Prim.Native.Nat.{_-_, _≤_}
+use native.Mathlib.Omega.{arith}
+use lib.ListN.{take, drop}
+use Rattle.walk.specs.Model.{afters}
+use Rattle.walk.specs.Walk.{Sends}
+use Rattle.timetable.specs.Model.{linesOfAll}
+use Rattle.timetable.specs.Begin.{afters-next, job-has, jobs-none}
+use borrow.Author.Needs.{needs}
+use Rattle.timetable.proofs.begin.occupied_by.Statement.{statement}
+use Rattle.timetable.proofs.begin.occupied_by.Tie as tie
+
+abbrev Inv-loop : tie.InvT-loop
+Inv-loop costs count jobs now₀ i₀ now i = (i ≤ count) × (afters now₀ (linesOfAll costs (take count jobs)) ≡ afters now (linesOfAll costs (drop i (take count jobs))))
+
+abbrev μ-loop : tie.MeasureT-loop
+μ-loop costs count jobs now₀ i₀ now i = count - i
+
+loop-holds : tie.Need-loop-holds Inv-loop μ-loop
+loop-holds c = (omega arith, refl)
+
+mul-occupied : tie.Need-mul-occupied Inv-loop μ-loop
+mul-occupied c = search needs
+
+array-copy-out-occupied : tie.Need-array-copy-out-occupied Inv-loop μ-loop
+array-copy-out-occupied c = search needs
+
+occupied-requires : tie.Need-occupied-requires Inv-loop μ-loop
+occupied-requires c κs =
+    let a = c .before .before .before .args in
+    let l = c .before .before .loop in
+    job-has (a .t3) (a .count) (l .i) (c .before .loop-test .taken) (omega arith) (Sends (a .costs)) (c .before .before .before .pre .1)
+
+add-i : tie.Need-add-i Inv-loop μ-loop
+add-i c = search needs
+
+loop-less : tie.Need-loop-less Inv-loop μ-loop
+loop-less c = search needs
+
+loop-again : tie.Need-loop-again Inv-loop μ-loop
+loop-again c =
+    let a = c .before .before .before .before .args in
+    let l = c .before .before .before .loop in
+    (omega arith, l .inv .1 ∙ afters-next (a .t3) (a .count) (l .i) (c .before .before .loop-test .taken) (omega arith) (a .costs) (l .now) ∙ rw (c .occupied .ensures))
+
+returns : tie.Need-returns Inv-loop μ-loop
+unfolding linesOfAll afters
+returns c =
+    let a = c .before .before .args in
+    let l = c .before .loop in
+    let none = jobs-none (a .t3) (a .count) (l .i) (omega arith) (c .loop-test .left) in
+    sym (l .inv .1 ∙ rw none)
+
+pub occupied-by-spec : {M : Type 1} → statement M
+occupied-by-spec =
+    tie.close
+    (tie.spec
+    Inv-loop
+    μ-loop
+    loop-holds
+    mul-occupied
+    array-copy-out-occupied
+    occupied-requires
+    add-i
+    loop-less
+    loop-again
+    returns)

@@ -1,0 +1,142 @@
+-- What the functions of src/begin.rt promise each other, and their loops' steps.
+use mathlib.Core.Path.{_≡_, refl, ap, ap₂, sym, subst, _∙_}
+use mathlib.Core.List.{List, [], _∷_, _++_, append-nil, append-assoc}
+use mathlib.Core.Bool.{Bool, true, false, cond, false≢true}
+use Prim.Native.Nat.{ℕ, suc, _+_, _-_, _≤_, _<_}
+use native.Mathlib.Numerals.{add-one}
+use native.Mathlib.Omega.{arith}
+use borrow.Author.Tests.{le-leb, lt-leb}
+use lib.ListN.{length, getD, take, drop, set, length-set, drop-of-length-le, take-append-drop}
+use lib.Seq.{drop-cons, getD-take, length-take-le, take-suc-set}
+use Rattle.lists.specs.Laws.{All, all-nth}
+use Rattle.shares.specs.declared.Costs.{Costs}
+use Rattle.walk.specs.declared.Job.{Job}
+use Rattle.walk.specs.declared.Busy.{Busy}
+use Rattle.walk.specs.declared.Chunk.{Chunk}
+use Rattle.walk.specs.Model.{noJob, linesOf, afters}
+use Rattle.walk.specs.Walk.{Sends}
+use Rattle.walk.specs.Rows.{rest-more}
+use Rattle.timetable.specs.Model.{startsBy, startsAfter, keep, linesOfAll}
+
+-- how many jobs at the front of a list start by t
+unfoldable pub starting : ℕ → List Job → ℕ
+starting t [] = 0
+starting t (j ∷ js) = cond (startsBy t j) (suc (starting t js)) 0
+
+-- one of the jobs starts by t
+unfoldable pub anyBy : ℕ → List Job → Bool
+anyBy t [] = false
+anyBy t (j ∷ js) = cond (startsBy t j) true (anyBy t js)
+
+-- how many chunks jobs have
+unfoldable pub chunks : List Job → ℕ
+chunks [] = 0
+chunks (j ∷ js) = j .booking .count + chunks js
+
+-- a job of at most 64 chunks
+abbrev pub Few : Job → Type 0
+Few j = j .booking .count ≤ 64
+
+-- a job that can begin: its chunks can be worked out, its show has a cell, and the cell has room for what they add
+pub record Raises (c : Costs) (held : List ℕ) (j : Job) : Type 0 where
+  pub sends : Sends c j
+  pub show : (1 ≤ j .show) × (j .show ≤ 32)
+  pub room : getD held (j .show - 1) 0 ≤ 10_000_000_000_000_000
+
+-- the same of several
+pub record RaisesAll (c : Costs) (held : List ℕ) (js : List Job) : Type 0 where
+  pub sends : All (Sends c) js
+  pub shows : All (λ (j : Job). (1 ≤ j .show) × (j .show ≤ 32)) js
+  pub room : All (λ (j : Job). getD held (j .show - 1) 0 ≤ 64_000_000_000_000) js
+
+-- ---- The first n jobs of an array, one by one
+
+pub afters-append : (b : Busy) (xs ys : List Chunk) → afters b (xs ++ ys) ≡ afters (afters b xs) ys
+unfolding afters
+afters-append b [] ys = refl
+afters-append b (x ∷ xs) ys = afters-append _ xs ys
+
+-- None is left at the end.
+pub jobs-none : (jobs : List Job) (n i : ℕ) → n ≤ length jobs → n ≤ i → drop i (take n jobs) ≡ []
+jobs-none jobs n i f h = drop-of-length-le (take n jobs) {i = i} (omega (arith, length-take-le n jobs f))
+
+module _ (jobs : List Job) (n i : ℕ) (h : i < n) (f : n ≤ length jobs) where
+  pub jobs-next : drop i (take n jobs) ≡ getD jobs i noJob ∷ drop (i + 1) (take n jobs)
+  jobs-next = rw (add-one i, drop-cons (take n jobs) i noJob (omega (arith, length-take-le n jobs f)), getD-take n jobs i noJob h)
+
+  -- What holds of all holds of the next.
+  pub job-has : (P : Job → Type 0) → All P (take n jobs) → P (getD jobs i noJob)
+  job-has P a = subst P (getD-take n jobs i noJob h) (all-nth noJob P (take n jobs) i a (omega (arith, length-take-le n jobs f)))
+
+  -- It starts by t, or not.
+  pub starting-more : (t : ℕ) → getD jobs i noJob .booking .start ≤ t → starting t (drop i (take n jobs)) ≡ suc (starting t (drop (i + 1) (take n jobs)))
+  unfolding starting
+  starting-more t k = rw (jobs-next, le-leb (getD jobs i noJob .booking .start) t k)
+
+  pub starting-stop : (t : ℕ) → t < getD jobs i noJob .booking .start → starting t (drop i (take n jobs)) ≡ 0
+  unfolding starting
+  starting-stop t k = rw (jobs-next, lt-leb (getD jobs i noJob .booking .start) t k)
+
+  pub any-more : (t : ℕ) → t < getD jobs i noJob .booking .start → anyBy t (drop i (take n jobs)) ≡ anyBy t (drop (i + 1) (take n jobs))
+  unfolding anyBy
+  any-more t k = rw (jobs-next, lt-leb (getD jobs i noJob .booking .start) t k)
+
+  pub any-stop : (t : ℕ) → getD jobs i noJob .booking .start ≤ t → anyBy t (drop i (take n jobs)) ≡ true
+  unfolding anyBy
+  any-stop t k = rw (jobs-next, le-leb (getD jobs i noJob .booking .start) t k)
+
+  pub chunks-next : chunks (drop i (take n jobs)) ≡ getD jobs i noJob .booking .count + chunks (drop (i + 1) (take n jobs))
+  unfolding chunks
+  chunks-next = rw jobs-next
+
+  -- The free times behind its chunks.
+  pub afters-next : (c : Costs) (b : Busy)
+      → afters b (linesOfAll c (drop i (take n jobs))) ≡ afters (afters b (linesOf c (getD jobs i noJob))) (linesOfAll c (drop (i + 1) (take n jobs)))
+  unfolding linesOfAll
+  afters-next c b = rw jobs-next (afters-append b (linesOf c (getD jobs i noJob)) _)
+
+  -- It waits on, or has begun.
+  pub keep-next : (t : ℕ) → t < getD jobs i noJob .booking .start
+      → keep (startsAfter t) (drop i (take n jobs)) ≡ getD jobs i noJob ∷ keep (startsAfter t) (drop (i + 1) (take n jobs))
+  unfolding keep
+  keep-next t k = rw (jobs-next, lt-leb (getD jobs i noJob .booking .start) t k)
+
+  pub keep-past : (t : ℕ) → getD jobs i noJob .booking .start ≤ t
+      → keep (startsAfter t) (drop i (take n jobs)) ≡ keep (startsAfter t) (drop (i + 1) (take n jobs))
+  unfolding keep
+  keep-past t k = rw (jobs-next, le-leb (getD jobs i noJob .booking .start) t k)
+
+-- Where none starts by t, each starts after it.
+pub none-by : (t : ℕ) (js : List Job) → anyBy t js ≡ false → All (λ (j : Job). startsBy t j ≡ false) js
+unfolding anyBy
+none-by t [] e = tt
+none-by t (j ∷ js) e = go (startsBy t j) refl e (none-by t js)
+  where
+    go : (b : Bool) → startsBy t j ≡ b → cond b true (anyBy t js) ≡ false → (anyBy t js ≡ false → All (λ (k : Job). startsBy t k ≡ false) js) → All (λ (k : Job). startsBy t k ≡ false) (j ∷ js)
+    go true q h r = absurd (false≢true (sym h))
+    go false q h r = (q, r h)
+
+-- ---- The jobs that wait on
+
+-- kept jobs at the front of out, the old array behind them, and what is still to come
+pub record Kept (whole jobs out : List Job) (kept : ℕ) (rest : List Job) : Type 0 where
+  pub size : length out ≡ 128
+  pub front : whole ≡ take kept out ++ rest
+  pub behind : drop kept out ≡ drop kept jobs
+
+pub kept-more : (whole jobs out : List Job) (k : ℕ) (j : Job) (rest : List Job) → k < 128 → Kept whole jobs out k (j ∷ rest) → Kept whole jobs (set out k j) (k + 1) rest
+kept-more whole jobs out k j rest h x =
+    let s = x .size in
+    let t : take (k + 1) (set out k j) ≡ take k out ++ j ∷ [] = rw (add-one k) (take-suc-set out k j (omega arith)) in
+    record {
+      size = length-set out k j ∙ s;
+      front = x .front ∙ sym (ap (λ (y : List Job). y ++ rest) t ∙ append-assoc (take k out) _ rest);
+      behind = rest-more out jobs k j (x .behind);
+    }
+
+-- At the end the array is the kept jobs with the old ones behind them.
+pub kept-all : (whole jobs out : List Job) (k : ℕ) → k ≤ 128 → Kept whole jobs out k [] → (k ≡ length whole) × (out ≡ whole ++ drop k jobs)
+kept-all whole jobs out k h x =
+    let s = x .size in
+    let e : whole ≡ take k out = x .front ∙ append-nil (take k out) in
+    (sym (ap length e ∙ length-take-le k out (omega arith)), sym (take-append-drop k out) ∙ ap₂ _++_ (sym e) (x .behind))

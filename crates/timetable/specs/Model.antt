@@ -1,0 +1,37 @@
+-- What a clock move begins, issues and adds to held ticks, over lists of jobs. Everything here is a definition; nothing is assumed.
+use Prim.Native.Nat.{ℕ, suc, _+_, _-_}
+use mathlib.Core.List.{List, [], _∷_, _++_}
+use mathlib.Core.Bool.{Bool, cond, not}
+use lib.Dec.{leb}
+use lib.ListN.{getD, set}
+use Rattle.shares.specs.declared.Costs.{Costs}
+use Rattle.walk.specs.declared.Job.{Job}
+use Rattle.walk.specs.declared.Chunk.{Chunk}
+use Rattle.walk.specs.Model.{Span, linesOf}
+
+-- the jobs of a list that pass a test, in their order
+unfoldable pub keep : (Job → Bool) → List Job → List Job
+keep p [] = []
+keep p (j ∷ js) = cond (p j) (j ∷ keep p js) (keep p js)
+
+-- its start is at most t
+abbrev pub startsBy : ℕ → Job → Bool
+startsBy t j = leb (j .booking .start) t
+
+-- its start is after t
+abbrev pub startsAfter : ℕ → Job → Bool
+startsAfter t j = not (startsBy t j)
+
+-- the lines of several jobs, in chunk order
+unfoldable pub linesOfAll : Costs → List Job → List Chunk
+linesOfAll c [] = []
+linesOfAll c (j ∷ js) = linesOf c j ++ linesOfAll c js
+
+-- what an issued chunk adds to its show's held ticks: its finish minus its job's start
+abbrev pub holds : Span → ℕ
+holds x = x .chunk .finish - x .from
+
+-- each issued chunk raises its show's cell
+unfoldable pub raised : List ℕ → List Span → List ℕ
+raised hs [] = hs
+raised hs (x ∷ xs) = raised (set hs (x .chunk .show - 1) (getD hs (x .chunk .show - 1) 0 + holds x)) xs

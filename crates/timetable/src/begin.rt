@@ -1,0 +1,164 @@
+// What begins by a time, and what is left by it.
+ghost use mathlib.Core.Path.{_≡_};
+ghost use mathlib.Core.List.{_++_};
+ghost use Prim.Native.Nat.{_+_, _*_, _≤_};
+ghost use lib.ListN.{length, take, drop};
+ghost use Rattle.lists.specs.Laws.{All};
+ghost use Rattle.shares.specs.Model.{sendEnd};
+ghost use Rattle.walk.specs.Model.{greatest, afters, spansOf, spansOfAll};
+ghost use Rattle.walk.specs.Walk.{Sends};
+ghost use Rattle.timetable.specs.Model.{keep, startsAfter, linesOfAll, raised};
+ghost use Rattle.timetable.specs.Begin.{anyBy, starting, chunks, Few, Raises, RaisesAll};
+use shares::Costs;
+use walk::Busy;
+use walk::Job;
+use walk::occupied;
+use walk::wide32;
+
+// The jobs that wait on, at the front of an array.
+pub struct Rest {
+    pub count: usize,
+    pub jobs: [Job; 128],
+}
+
+// Whether one of the first `count` jobs starts by `time`.
+pub fn any_begins(jobs: [Job; 128], count: usize, time: u64) -> bool
+    requires { ⌜ count ≤ 128 ⌝ }
+    ensures { λ r. ⌜ r ≡ anyBy time (take count jobs) ⌝ }
+{
+    let mut i = 0;
+    while i < count {
+        let job = jobs[i];
+        let plan = job.booking;
+        if plan.start <= time {
+            return true;
+        }
+        i += 1;
+    }
+    false
+}
+
+// How many jobs at the front of the first `count` start by `time`.
+pub fn begun(jobs: [Job; 128], count: usize, time: u64) -> usize
+    requires { ⌜ count ≤ 128 ⌝ }
+    ensures { λ r. ⌜ (r ≡ starting time (take count jobs)) × (r ≤ count) ⌝ }
+{
+    let mut i = 0;
+    while i < count {
+        let job = jobs[i];
+        let booking = job.booking;
+        if time < booking.start {
+            return i;
+        }
+        i += 1;
+    }
+    count
+}
+
+// How many lines the first `count` jobs have.
+pub fn line_count(jobs: [Job; 128], count: usize) -> usize
+    requires { ⌜ (count ≤ 128) × All Few (take count jobs) ⌝ }
+    ensures { λ r. ⌜ (r ≡ chunks (take count jobs)) × (r ≤ 8192) ⌝ }
+{
+    let mut lines = 0;
+    let mut i = 0;
+    while i < count {
+        let job = jobs[i];
+        let booking = job.booking;
+        lines += booking.count;
+        i += 1;
+    }
+    lines
+}
+
+// The free times that the first `count` jobs leave.
+pub fn occupied_by(costs: Costs, busy: Busy, jobs: [Job; 128], count: usize) -> Busy
+    requires { ⌜ (count ≤ 128) × All (Sends costs) (take count jobs) ⌝ }
+    ensures { λ r. ⌜ r ≡ afters busy (linesOfAll costs (take count jobs)) ⌝ }
+{
+    let mut now = busy;
+    let mut i = 0;
+    while i < count {
+        now = occupied(costs, now, jobs[i]);
+        i += 1;
+    }
+    now
+}
+
+// When a chunk's send ends that begins at `time`.
+fn send_end(costs: Costs, time: u64, units: u64) -> u64
+    requires { ⌜ sendEnd costs time units ≤ greatest ⌝ }
+    ensures { λ r. ⌜ r ≡ sendEnd costs time units ⌝ }
+{
+    time + (costs.link + units * costs.send)
+}
+
+// When a chunk is done that is sent by `sent`.
+fn done_at(costs: Costs, sent: u64, units: u64) -> u64
+    requires { ⌜ sent + (costs .node + units * costs .compute) ≤ greatest ⌝ }
+    ensures { λ r. ⌜ r ≡ sent + (costs .node + units * costs .compute) ⌝ }
+{
+    sent + (costs.node + units * costs.compute)
+}
+
+// The held ticks after a job has begun: each of its chunks adds its finish minus the job's start.
+fn raised_by(costs: Costs, held: [u64; 32], job: Job) -> [u64; 32]
+    requires { ⌜ Raises costs held job ⌝ }
+    ensures { λ r. ⌜ (r ≡ raised held (spansOf costs job)) × (length r ≡ 32) ⌝ }
+{
+    let booking = job.booking;
+    let shares = booking.shares;
+    let count = booking.count;
+    let start = booking.start;
+    let place = (job.show - 1) as usize;
+    let mut cells = held;
+    let mut time = start;
+    let mut i = 0;
+    while i < count {
+        let units = wide32(shares[i]);
+        let sent = send_end(costs, time, units);
+        let finish = done_at(costs, sent, units);
+        cells[place] = cells[place] + (finish - start);
+        time = sent;
+        i += 1;
+    }
+    cells
+}
+
+// The held ticks after the first `count` jobs have begun.
+pub fn raised_all(costs: Costs, held: [u64; 32], jobs: [Job; 128], count: usize) -> [u64; 32]
+    requires { ⌜ (count ≤ 128) × RaisesAll costs held (take count jobs) ⌝ }
+    ensures { λ r. ⌜ (r ≡ raised held (spansOfAll costs (take count jobs))) × (length r ≡ 32) ⌝ }
+{
+    let mut cells = held;
+    let mut i = 0;
+    while i < count {
+        let next = raised_by(costs, cells, jobs[i]);
+        cells = next;
+        i += 1;
+    }
+    cells
+}
+
+// Of the first `count` jobs those that start after `time`, in the order that they have.
+pub fn left(jobs: [Job; 128], count: usize, time: u64) -> Rest
+    requires { ⌜ count ≤ 128 ⌝ }
+    ensures { λ r. ⌜ (r .count ≡ length (keep (startsAfter time) (take count jobs))) × (r .jobs ≡ keep (startsAfter time) (take count jobs) ++ drop (r .count) jobs) × (r .count ≤ count) × (length (r .jobs) ≡ 128) ⌝ }
+{
+    let mut out = jobs;
+    let mut kept = 0;
+    let mut i = 0;
+    while i < count {
+        let job = jobs[i];
+        let booked = job.booking;
+        if time < booked.start {
+            out[kept] = job;
+            kept += 1;
+        }
+        i += 1;
+    }
+    Rest {
+        count: kept,
+        jobs: out,
+    }
+}

@@ -1,0 +1,4 @@
+// What a clock move begins: the jobs in order of start, their lines, and what they leave in free times, held ticks and
+// the row of waiting jobs. It knows jobs and chunks, and no farm. What each function means is in specs/Model.antt.
+pub mod begin;
+pub mod lines;

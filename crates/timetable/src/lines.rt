@@ -1,0 +1,81 @@
+// The lines of a timetable, written to lent memory.
+ghost use mathlib.Core.Path.{_≡_};
+ghost use mathlib.Core.List.{_++_};
+ghost use Prim.Native.Nat.{_+_, _≤_, _<_};
+ghost use lib.ListN.{length, getD, take, drop};
+ghost use Rattle.lists.specs.Laws.{All};
+ghost use Rattle.shares.specs.Model.{chunkFinish};
+ghost use Rattle.walk.specs.Model.{greatest, linesOf};
+ghost use Rattle.walk.specs.Walk.{Sends};
+ghost use Rattle.timetable.specs.Model.{linesOfAll};
+ghost use Rattle.timetable.specs.Begin.{chunks};
+ghost use Rattle.timetable.specs.Lines.{lineAt};
+use shares::Costs;
+use walk::Chunk;
+use walk::Job;
+use walk::wide8;
+use walk::wide32;
+
+// Chunk i of a job, its send beginning at `from`.
+fn line(costs: Costs, job: Job, i: usize, from: u64) -> Chunk
+    requires { ⌜ (i < 64) × (chunkFinish costs from (getD (job .booking .shares) i 0) ≤ greatest) ⌝ }
+    ensures { λ r. ⌜ r ≡ lineAt costs job i from ⌝ }
+{
+    let booking = job.booking;
+    let units = wide32(booking.shares[i]);
+    let sent = from + (costs.link + units * costs.send);
+    Chunk {
+        job: job.number,
+        show: job.show,
+        node: wide8(booking.nodes[i]),
+        units,
+        start: from,
+        sent,
+        finish: sent + (costs.node + units * costs.compute),
+    }
+}
+
+fn start_of(job: Job) -> u64
+    ensures { λ r. ⌜ r ≡ job .booking .start ⌝ }
+{
+    let booking = job.booking;
+    booking.start
+}
+
+fn count_of(job: Job) -> usize
+    ensures { λ r. ⌜ r ≡ job .booking .count ⌝ }
+{
+    let booking = job.booking;
+    booking.count
+}
+
+// Writes a job's lines from place `at` on.
+fn write_job(out: &mut [Chunk], at: usize, costs: Costs, job: Job)
+    requires { ⌜ Sends costs job × (at + job .booking .count ≤ length (now out)) ⌝ }
+    ensures { λ _. ⌜ now (out .exit) ≡ take at (now (out .entry)) ++ (linesOf costs job ++ drop (at + job .booking .count) (now (out .entry))) ⌝ }
+{
+    let count = count_of(job);
+    let mut from = start_of(job);
+    let mut i: usize = 0;
+    while i < count {
+        let c = line(costs, job, i, from);
+        out[at + i] = c;
+        from = c.sent;
+        i = i + 1;
+    }
+}
+
+// Writes the lines of the first `count` jobs to the front.
+pub fn write_lines(out: &mut [Chunk], costs: Costs, jobs: [Job; 128], count: usize)
+    requires { ⌜ (count ≤ 128) × All (Sends costs) (take count jobs) × (chunks (take count jobs) ≤ length (now out)) ⌝ }
+    ensures { λ _. ⌜ now (out .exit) ≡ linesOfAll costs (take count jobs) ++ drop (chunks (take count jobs)) (now (out .entry)) ⌝ }
+{
+    let mut at: usize = 0;
+    let mut k: usize = 0;
+    while k < count {
+        let job = jobs[k];
+        write_job(out, at, costs, job);
+        at = at + count_of(job);
+        k = k + 1;
+    }
+}
