@@ -1,0 +1,188 @@
+//! The farm and its calls.
+//!
+//! A call takes the farm by an exclusive borrow, so it is a value that nothing
+//! else writes, and hands the next one back in the same place. A refused call
+//! changes nothing.
+
+use crate::job::{Begun, Booking, Job, Plan, Record, Walk};
+use crate::limits::*;
+use crate::node::Ranking;
+use crate::refusal::Refusal;
+use crate::share::{Costs, Windows};
+
+#[derive(Clone, Debug)]
+pub struct Farm<W> {
+    begun: Begun,
+    plan: Plan,
+    walk: W,
+    numbers_used: u64,
+    shows: Vec<Held>,
+}
+
+#[derive(Clone, Copy, Debug)]
+struct Held {
+    allowance: u64,
+    ticks: u64,
+}
+
+/// The answer to a granted offer.
+#[derive(Clone, Copy, Debug, PartialEq, Eq)]
+pub struct Accepted {
+    pub job: u64,
+    pub start: u64,
+    pub finish: u64,
+    pub nodes: usize,
+}
+
+/// A show's ticks.
+#[derive(Clone, Copy, Debug, PartialEq, Eq)]
+pub struct Account {
+    pub held: u64,
+    pub charged: u64,
+}
+
+/// Stops the call with a refusal unless its question is answered yes.
+fn ask(yes: bool, refusal: Refusal) -> Result<(), Refusal> {
+    if yes {
+        Ok(())
+    } else {
+        Err(refusal)
+    }
+}
+
+impl<W: Walk> Farm<W> {
+    pub fn open(nodes: u64, costs: Costs, allowances: &[u64]) -> Result<Self, Refusal> {
+        let nodes = usize::try_from(nodes).unwrap_or(usize::MAX);
+        ask((1..=MOST_NODES).contains(&nodes), Refusal::NodeCount)?;
+        let costs_within = (1..=MOST_SEND_COST).contains(&costs.send)
+            && (1..=MOST_COMPUTE_COST).contains(&costs.compute)
+            && costs.link_setup <= MOST_SETUP
+            && costs.node_setup <= MOST_SETUP;
+        ask(costs_within, Refusal::Costs)?;
+        let shows_within = (1..=MOST_SHOWS).contains(&allowances.len())
+            && allowances.iter().all(|&ticks| ticks <= LAST_TICK);
+        ask(shows_within, Refusal::Allowances)?;
+        let held = |&allowance: &u64| Held {
+            allowance,
+            ticks: 0,
+        };
+        Ok(Farm {
+            begun: Begun {
+                windows: Windows::new(costs),
+                clock: 0,
+                link_free: 0,
+                ranking: Ranking::new(nodes),
+            },
+            plan: Plan::default(),
+            walk: W::default(),
+            numbers_used: 0,
+            shows: allowances.iter().map(held).collect(),
+        })
+    }
+
+    pub fn offer(&mut self, show: u64, size: u64, deadline: u64) -> Result<Accepted, Refusal> {
+        self.show_place(show)?;
+        ask((1..=MOST_UNITS).contains(&size), Refusal::Size)?;
+        let in_time = self.begun.clock < deadline && deadline <= LAST_TICK;
+        ask(in_time, Refusal::Deadline)?;
+        let room = self.waiting() < MOST_WAITING && self.numbers_used < MOST_JOB_NUMBERS;
+        ask(room, Refusal::QueueFull)?;
+        let new = Job {
+            number: self.numbers_used + 1,
+            show,
+            size,
+            deadline,
+        };
+        let booked = self.walk.book(&self.begun, &mut self.plan, new);
+        ask(booked, Refusal::NotBookable)?;
+        self.numbers_used = new.number;
+        Ok(self.accepted(new))
+    }
+
+    /// The new job's booking: the last of its deadline.
+    fn accepted(&self, new: Job) -> Accepted {
+        let plan = &self.plan;
+        let up_to_new = |b: &Booking| b.job.deadline <= new.deadline;
+        let place = plan.bookings.partition_point(up_to_new) - 1;
+        let Booking { start, nodes, .. } = plan.bookings[place];
+        let first = plan.chunks_of_first(place);
+        let chunks = plan.chunks.range(first..first + nodes);
+        Accepted {
+            job: new.number,
+            start,
+            finish: chunks.map(|chunk| chunk.free.time()).max().unwrap_or(start),
+            nodes,
+        }
+    }
+
+    /// Moves the clock, issues the chunks of the jobs that begin, and answers
+    /// how many lines of the lent timetable it wrote.
+    pub fn move_clock(&mut self, time: u64, timetable: &mut [Record]) -> Result<usize, Refusal> {
+        let in_range = self.begun.clock <= time && time <= LAST_TICK;
+        ask(in_range, Refusal::Time)?;
+        let jobs = self.plan.bookings.partition_point(|b| b.start <= time);
+        let lines = self.write_first(jobs, timetable)?;
+        if jobs > 0 {
+            self.begin(jobs, lines);
+        }
+        self.begun.clock = time;
+        Ok(lines)
+    }
+
+    /// Takes the first jobs, at least one, out of the plan: they never move again.
+    fn begin(&mut self, jobs: usize, chunks: usize) {
+        let plan = &mut self.plan;
+        let issued = plan.chunks.range(..chunks);
+        self.begun.ranking = self.begun.ranking.after(issued.map(|chunk| chunk.free));
+        self.begun.link_free = plan.chunks[chunks - 1].send_end;
+        let mut issued = plan.chunks.drain(..chunks);
+        for booking in plan.bookings.drain(..jobs) {
+            let held = &mut self.shows[booking.job.show as usize - 1].ticks;
+            for chunk in issued.by_ref().take(booking.nodes) {
+                *held += chunk.free.time() - booking.start;
+            }
+        }
+    }
+
+    pub fn account(&self, show: u64) -> Result<Account, Refusal> {
+        let Held { allowance, ticks } = self.shows[self.show_place(show)?];
+        Ok(Account {
+            held: ticks,
+            charged: ticks.saturating_sub(allowance),
+        })
+    }
+
+    /// Writes the lines of every waiting booking and answers their count.
+    pub fn show_waiting(&self, timetable: &mut [Record]) -> Result<usize, Refusal> {
+        self.write_first(self.waiting(), timetable)
+    }
+
+    fn write_first(&self, jobs: usize, timetable: &mut [Record]) -> Result<usize, Refusal> {
+        let lines = self.plan.chunks_of_first(jobs);
+        ask(lines <= timetable.len(), Refusal::TimetableFull)?;
+        self.plan.write_first(jobs, timetable);
+        Ok(lines)
+    }
+
+    fn show_place(&self, show: u64) -> Result<usize, Refusal> {
+        ask((1..=self.show_count()).contains(&show), Refusal::Show)?;
+        Ok(show as usize - 1)
+    }
+
+    pub fn show_count(&self) -> u64 {
+        self.shows.len() as u64
+    }
+
+    pub fn clock(&self) -> u64 {
+        self.begun.clock
+    }
+
+    pub fn waiting(&self) -> usize {
+        self.plan.bookings.len()
+    }
+
+    /// The start of each waiting job, in order.
+    pub fn starts(&self) -> impl Iterator<Item = u64> + '_ {
+        self.plan.bookings.iter().map(|booking| booking.start)
+    }
+}

@@ -1,0 +1,97 @@
+//! Jobs, their bookings, and the plan of the waiting ones.
+
+use crate::node::{FreeNode, Ranking};
+use crate::share::Windows;
+use std::collections::VecDeque;
+
+/// A job as its offer gave it.
+#[derive(Clone, Copy, Debug, PartialEq, Eq)]
+pub struct Job {
+    pub number: u64,
+    pub show: u64,
+    pub size: u64,
+    pub deadline: u64,
+}
+
+/// A waiting job with the start and the number of nodes a walk gave it.
+#[derive(Clone, Copy, Debug, PartialEq, Eq)]
+pub struct Booking {
+    pub job: Job,
+    pub start: u64,
+    pub nodes: usize,
+}
+
+/// One node's part of a booking. Its send starts where the one before ended,
+/// the first at the booking's start.
+#[derive(Clone, Copy, Debug, PartialEq, Eq)]
+pub struct Chunk {
+    pub units: u64,
+    pub send_end: u64,
+    /// The node, and the chunk's finish as the time it is free again.
+    pub free: FreeNode,
+}
+
+/// A line of the timetable.
+#[derive(Clone, Copy, Debug, Default, PartialEq, Eq)]
+pub struct Record {
+    pub job: u64,
+    pub show: u64,
+    pub node: u64,
+    pub units: u64,
+    pub send_start: u64,
+    pub send_end: u64,
+    pub finish: u64,
+}
+
+/// What the begun jobs left: where every walk begins.
+#[derive(Clone, Debug)]
+pub struct Begun {
+    pub windows: Windows,
+    pub clock: u64,
+    pub link_free: u64,
+    pub ranking: Ranking,
+}
+
+/// The waiting bookings by deadline, equal deadlines by number, and their
+/// chunks in the same order. As each start waits for the link, starts rise in
+/// this order too, so jobs begin from the front.
+#[derive(Clone, Debug, Default)]
+pub struct Plan {
+    pub bookings: VecDeque<Booking>,
+    pub chunks: VecDeque<Chunk>,
+}
+
+impl Plan {
+    /// The number of chunks of the first bookings.
+    pub fn chunks_of_first(&self, bookings: usize) -> usize {
+        self.bookings.range(..bookings).map(|b| b.nodes).sum()
+    }
+
+    /// Writes the timetable lines of the first bookings.
+    pub fn write_first(&self, bookings: usize, timetable: &mut [Record]) {
+        let mut chunks = self.chunks.iter();
+        let mut lines = timetable.iter_mut();
+        for booking in self.bookings.range(..bookings) {
+            let mut send_start = booking.start;
+            for (chunk, line) in chunks.by_ref().zip(lines.by_ref()).take(booking.nodes) {
+                *line = Record {
+                    job: booking.job.number,
+                    show: booking.job.show,
+                    node: chunk.free.node(),
+                    units: chunk.units,
+                    send_start,
+                    send_end: chunk.send_end,
+                    finish: chunk.free.time(),
+                };
+                send_start = chunk.send_end;
+            }
+        }
+    }
+}
+
+/// A way to book the waiting jobs.
+pub trait Walk: Default {
+    /// Books the waiting jobs and the new one into the plan and answers true,
+    /// or leaves the plan as it is and answers false.
+    fn book(&mut self, begun: &Begun, plan: &mut Plan, new: Job) -> bool;
+}

@@ -1,0 +1,146 @@
+//! Long days, to measure programs on.
+
+use crate::farm::Farm;
+use crate::limits::{LAST_TICK, MOST_UNITS};
+use crate::program::Session;
+use crate::quick::Quick;
+use crate::random::Random;
+use crate::share::{Costs, Windows};
+use crate::text;
+
+/// Jobs that wait in a long day once it is under way.
+const WAITING: usize = 120;
+
+const COSTS: Costs = Costs {
+    send: 3,
+    compute: 200,
+    link_setup: 5,
+    node_setup: 40,
+};
+
+const NODES: u64 = 64;
+
+/// A long day and its name.
+pub struct LongDay {
+    pub name: &'static str,
+    pub lines: usize,
+    pub bytes: Vec<u8>,
+}
+
+/// All long days; each has the same bytes every time.
+pub fn long_days() -> Vec<LongDay> {
+    vec![
+        queue_day("loose deadlines, full queue", 6_000, loose_deadline),
+        queue_day("tight deadlines, full queue", 6_000, tight_deadline),
+        short_lines(100_000),
+    ]
+}
+
+struct Writer {
+    random: Random,
+    windows: Windows,
+    session: Session<Quick>,
+    day: LongDay,
+}
+
+impl Writer {
+    fn new(name: &'static str) -> Self {
+        let mut writer = Writer {
+            random: Random::new(1),
+            windows: Windows::new(COSTS),
+            session: Session::default(),
+            day: LongDay {
+                name,
+                lines: 0,
+                bytes: Vec::new(),
+            },
+        };
+        let costs = [
+            COSTS.send,
+            COSTS.compute,
+            COSTS.link_setup,
+            COSTS.node_setup,
+        ];
+        writer.line(b"farm", &[&[NODES], &costs[..], &[1_000_000; 8]].concat());
+        writer
+    }
+
+    fn line(&mut self, kind: &[u8], numbers: &[u64]) {
+        let first = self.day.bytes.len();
+        text::print(&mut self.day.bytes, kind, numbers);
+        let line = &self.day.bytes[first..];
+        self.session.line(&line[..line.len() - 1]);
+        self.session.answers().clear();
+        self.day.lines += 1;
+    }
+
+    fn starts(&self) -> Vec<u64> {
+        let farm = self.session.farm();
+        farm.map_or_else(Vec::new, |farm| farm.starts().collect())
+    }
+
+    fn clock(&self) -> u64 {
+        self.session.farm().map_or(0, Farm::clock)
+    }
+}
+
+/// Offers with about 120 jobs waiting; a clock move lets a few begin whenever
+/// more wait.
+fn queue_day(
+    name: &'static str,
+    lines: usize,
+    deadline: fn(&mut Writer, size: u64) -> u64,
+) -> LongDay {
+    let mut writer = Writer::new(name);
+    while writer.day.lines < lines {
+        let starts = writer.starts();
+        if starts.len() > WAITING {
+            writer.line(b"clock", &[starts[3]]);
+        }
+        let show = writer.random.between(1, 8);
+        let size = writer.random.between(20, 400);
+        let deadline = deadline(&mut writer, size);
+        writer.line(b"job", &[show, size, deadline]);
+    }
+    writer.day
+}
+
+/// Far enough that a node or two will do.
+fn loose_deadline(writer: &mut Writer, size: u64) -> u64 {
+    writer.clock() + size * 500 + writer.random.between(300_000, 900_000)
+}
+
+/// Just enough for some number of nodes at the end of the queue, so that most
+/// jobs need several; now and then amid the queue, where a refusal is likely.
+fn tight_deadline(writer: &mut Writer, size: u64) -> u64 {
+    let starts = writer.starts();
+    let last = starts.last().map_or(writer.clock(), |&start| start);
+    let nodes = writer.random.between(4, 64) as usize;
+    let nodes = nodes.min(size as usize / 2);
+    let window = writer.windows.least_window(nodes, size, LAST_TICK);
+    let start = if writer.random.once_in(4) {
+        writer.clock() + (last - writer.clock()) / 2
+    } else {
+        last
+    };
+    start + window * 3 / 2 + writer.random.between(0, 2_000)
+}
+
+/// Short lines with few jobs waiting: accounts, clock moves, refusals.
+fn short_lines(lines: usize) -> LongDay {
+    let mut writer = Writer::new("short lines, few jobs waiting");
+    while writer.day.lines < lines {
+        let (show, clock) = (writer.random.between(1, 8), writer.clock());
+        match writer.random.between(0, 9) {
+            0..=3 => writer.line(b"account", &[show]),
+            4..=6 => writer.line(b"clock", &[clock + show]),
+            7 => writer.line(b"job", &[show, MOST_UNITS, clock + 9]),
+            8 => writer.line(b"account", &[show + 8]),
+            _ if writer.starts().len() < 4 => {
+                writer.line(b"job", &[show, show, clock + 5_000]);
+            }
+            _ => writer.line(b"clock", &[]),
+        }
+    }
+    writer.day
+}

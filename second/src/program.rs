@@ -1,0 +1,198 @@
+//! The program: lines in, answers out.
+
+use crate::farm::Farm;
+use crate::job::{Record, Walk};
+use crate::limits::{LENT_RECORDS, MOST_LINE_BYTES};
+use crate::quick::Quick;
+use crate::refusal::Refusal;
+use crate::share::Costs;
+use crate::text;
+use std::io::{self, ErrorKind, Read, Write};
+
+/// Bytes asked for in one read.
+const BLOCK: usize = 1 << 16;
+
+/// Answers are written once there are this many, so that they never pile up.
+const MANY_ANSWER_BYTES: usize = 1 << 16;
+
+/// A day under way: the farm once it is opened, and memory used line by line.
+pub struct Session<W> {
+    farm: Option<Farm<W>>,
+    numbers: Vec<u64>,
+    timetable: Vec<Record>,
+    answers: Vec<u8>,
+}
+
+impl<W: Walk> Default for Session<W> {
+    fn default() -> Self {
+        Session {
+            farm: None,
+            numbers: Vec::new(),
+            timetable: vec![Record::default(); LENT_RECORDS],
+            answers: Vec::new(),
+        }
+    }
+}
+
+impl<W: Walk> Session<W> {
+    /// Answers one line, given without its newline.
+    pub fn line(&mut self, line: &[u8]) {
+        if let Err(refusal) = self.call(line) {
+            text::print(&mut self.answers, b"no", &[refusal.number()]);
+        }
+    }
+
+    fn call(&mut self, line: &[u8]) -> Result<(), Refusal> {
+        if line.len() > MOST_LINE_BYTES {
+            return Err(Refusal::Unreadable);
+        }
+        let kind = text::read_line(line, &mut self.numbers).ok_or(Refusal::Unreadable)?;
+        let answers = &mut self.answers;
+        match (kind, &self.numbers[..], &mut self.farm) {
+            (b"farm", &[nodes, m, p, st, sc, ref allowances @ ..], None) => {
+                let farm = Farm::open(nodes, Costs::new(m, p, st, sc), allowances)?;
+                text::print(answers, b"open", &[nodes, farm.show_count()]);
+                self.farm = Some(farm);
+            }
+            (b"job", &[show, size, deadline], Some(farm)) => {
+                let yes = farm.offer(show, size, deadline)?;
+                let fields = [yes.job, yes.start, yes.finish, yes.nodes as u64];
+                text::print(answers, b"yes", &fields);
+            }
+            (b"clock", &[time], Some(farm)) => {
+                let issued = farm.move_clock(time, &mut self.timetable)?;
+                for record in &self.timetable[..issued] {
+                    print_record(answers, record);
+                }
+                text::print(answers, b"clock", &[time, issued as u64]);
+            }
+            (b"account", &[show], Some(farm)) => {
+                let account = farm.account(show)?;
+                text::print(answers, b"account", &[show, account.held, account.charged]);
+            }
+            _ => return Err(Refusal::Unreadable),
+        }
+        Ok(())
+    }
+
+    pub fn farm(&self) -> Option<&Farm<W>> {
+        self.farm.as_ref()
+    }
+
+    /// The answers since they were last cleared.
+    pub fn answers(&mut self) -> &mut Vec<u8> {
+        &mut self.answers
+    }
+}
+
+fn print_record(answers: &mut Vec<u8>, record: &Record) {
+    let fields = [
+        record.job,
+        record.show,
+        record.node,
+        record.units,
+        record.send_start,
+        record.send_end,
+        record.finish,
+    ];
+    text::print(answers, b"chunk", &fields);
+}
+
+/// Cuts blocks of bytes into lines and answers them.
+struct Lines<'a, W> {
+    session: &'a mut Session<W>,
+    /// The bytes so far of a line that its block did not end.
+    begun: Vec<u8>,
+    /// The line under way is too long and was answered.
+    skipping: bool,
+}
+
+impl<W: Walk> Lines<'_, W> {
+    fn block(&mut self, block: &[u8], output: &mut impl Write) -> io::Result<()> {
+        let mut rest = block;
+        while let Some(end) = rest.iter().position(|&byte| byte == b'\n') {
+            self.end_line(&rest[..end]);
+            rest = &rest[end + 1..];
+            if self.session.answers.len() > MANY_ANSWER_BYTES {
+                self.write(output)?;
+            }
+        }
+        self.carry(rest);
+        self.write(output)?;
+        output.flush()
+    }
+
+    fn end_line(&mut self, part: &[u8]) {
+        if self.skipping {
+            self.skipping = false;
+        } else if self.begun.is_empty() {
+            self.session.line(part);
+        } else {
+            self.keep(part);
+            self.session.line(&self.begun);
+            self.begun.clear();
+        }
+    }
+
+    /// Keeps part of a line, but no more than shows that it is too long.
+    fn keep(&mut self, part: &[u8]) {
+        let room = MOST_LINE_BYTES + 1 - self.begun.len();
+        self.begun.extend_from_slice(&part[..room.min(part.len())]);
+    }
+
+    /// Keeps the start of a line; one already too long is answered at once.
+    fn carry(&mut self, part: &[u8]) {
+        if self.skipping {
+            return;
+        }
+        self.keep(part);
+        if self.begun.len() > MOST_LINE_BYTES {
+            self.session.line(&self.begun);
+            self.begun.clear();
+            self.skipping = true;
+        }
+    }
+
+    /// At the end of input: the last line may lack its newline.
+    fn end(&mut self, output: &mut impl Write) -> io::Result<()> {
+        if !self.begun.is_empty() {
+            self.session.line(&self.begun);
+        }
+        self.write(output)?;
+        output.flush()
+    }
+
+    fn write(&mut self, output: &mut impl Write) -> io::Result<()> {
+        output.write_all(&self.session.answers)?;
+        self.session.answers.clear();
+        Ok(())
+    }
+}
+
+/// Answers all lines of the input. Each block read is answered before the next
+/// is asked for, so a day typed into a pipe is answered line by line.
+pub fn run<W: Walk>(mut input: impl Read, mut output: impl Write) -> io::Result<()> {
+    let mut session = Session::<W>::default();
+    let mut lines = Lines {
+        session: &mut session,
+        begun: Vec::new(),
+        skipping: false,
+    };
+    let mut block = vec![0; BLOCK];
+    loop {
+        match input.read(&mut block) {
+            Ok(0) => return lines.end(&mut output),
+            Ok(length) => lines.block(&block[..length], &mut output)?,
+            Err(error) if error.kind() == ErrorKind::Interrupted => {}
+            Err(error) => return Err(error),
+        }
+    }
+}
+
+/// The quick walk's answers to a whole day.
+pub fn answers(day: &[u8]) -> Vec<u8> {
+    let mut answers = Vec::new();
+    // Reading a slice and writing a vector cannot fail.
+    let _ = run::<Quick>(day, &mut answers);
+    answers
+}

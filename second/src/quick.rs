@@ -1,0 +1,125 @@
+//! The quick walk, earliest deadline first.
+//!
+//! Jobs before the new one in deadline order keep their bookings, and only the
+//! jobs after it are booked again. A walk over them would give the same: they
+//! start after the clock, so a later clock takes no start from them and adds
+//! none before, and jobs begin from the front of the plan, so the free times
+//! they meet are the ones they met before.
+
+use crate::job::{Begun, Booking, Chunk, Job, Plan, Walk};
+use crate::node::{FreeNode, MovingRanking};
+use crate::share::Windows;
+
+/// The quick walk under way; its memory is kept from offer to offer.
+#[derive(Clone, Debug, Default)]
+pub struct Quick {
+    /// No start precedes this: the clock or the link's free time.
+    ready: u64,
+    ranking: MovingRanking,
+    /// The new job's booking and those after it, until all are booked.
+    bookings: Vec<Booking>,
+    chunks: Vec<Chunk>,
+    /// The nodes that one job takes.
+    taken: Vec<FreeNode>,
+}
+
+/// The same walk with no booking kept: every waiting job is booked again. It is
+/// there to be timed beside a planner that keeps none.
+#[derive(Clone, Debug, Default)]
+pub struct Whole(Quick);
+
+impl Walk for Quick {
+    fn book(&mut self, begun: &Begun, plan: &mut Plan, new: Job) -> bool {
+        let kept = place_of(plan, new);
+        self.book_behind(begun, plan, new, kept)
+    }
+}
+
+impl Walk for Whole {
+    fn book(&mut self, begun: &Begun, plan: &mut Plan, new: Job) -> bool {
+        self.0.book_behind(begun, plan, new, 0)
+    }
+}
+
+/// Where the new job stands among the waiting ones: behind equal deadlines.
+fn place_of(plan: &Plan, new: Job) -> usize {
+    plan.bookings
+        .partition_point(|b| b.job.deadline <= new.deadline)
+}
+
+impl Quick {
+    /// Books the waiting jobs and the new one behind the first bookings, which
+    /// are kept.
+    fn book_behind(&mut self, begun: &Begun, plan: &mut Plan, new: Job, kept: usize) -> bool {
+        let place = place_of(plan, new);
+        let kept_chunks = plan.chunks_of_first(kept);
+        self.begin(begun, plan, kept_chunks);
+        let earlier = plan.bookings.range(kept..place).map(|b| b.job);
+        let later = plan.bookings.range(place..).map(|b| b.job);
+        for job in earlier.chain(std::iter::once(new)).chain(later) {
+            if !self.book_next(&begun.windows, job) {
+                return false;
+            }
+        }
+        plan.bookings.truncate(kept);
+        plan.chunks.truncate(kept_chunks);
+        plan.bookings.extend(&self.bookings);
+        plan.chunks.extend(&self.chunks);
+        true
+    }
+
+    /// Begins behind the kept bookings.
+    fn begin(&mut self, begun: &Begun, plan: &Plan, kept_chunks: usize) {
+        self.bookings.clear();
+        self.chunks.clear();
+        self.ready = begun.clock.max(begun.link_free);
+        if kept_chunks == 0 {
+            self.ranking.begin(&begun.ranking);
+            return;
+        }
+        let kept = plan.chunks.range(..kept_chunks).map(|chunk| chunk.free);
+        self.ranking.begin(&begun.ranking.after(kept));
+        self.ready = self.ready.max(plan.chunks[kept_chunks - 1].send_end);
+    }
+
+    /// Books one job behind those booked so far, if that can be.
+    fn book_next(&mut self, windows: &Windows, job: Job) -> bool {
+        let Some((start, nodes)) = self.earliest_start(windows, job) else {
+            return false;
+        };
+        let window = windows.least_window(nodes, job.size, job.deadline - start);
+        self.taken.clear();
+        let shares = windows.shares(job.size, window);
+        for (share, free) in shares.zip(self.ranking.row()) {
+            let free = FreeNode::new(free.node(), start + share.finish);
+            self.taken.push(free);
+            self.chunks.push(Chunk {
+                units: share.units,
+                send_end: start + share.send_end,
+                free,
+            });
+            self.ready = start + share.send_end;
+        }
+        self.taken.sort_unstable();
+        self.ranking.replace_first(&self.taken);
+        self.bookings.push(Booking { job, start, nodes });
+        true
+    }
+
+    /// The earliest start at which the free nodes end the job in time, and the
+    /// fewest nodes that do. A start needs at least as many nodes as an earlier
+    /// one, so where too few are free the next to try is when that many are.
+    fn earliest_start(&self, windows: &Windows, job: Job) -> Option<(u64, usize)> {
+        let row = self.ranking.row();
+        let mut start = self.ready.max(row[0].time());
+        loop {
+            let window = job.deadline.saturating_sub(start);
+            let nodes = windows.fewest_nodes(job.size, window, row.len())?;
+            let all_free = row[nodes - 1].time();
+            if all_free <= start {
+                return Some((start, nodes));
+            }
+            start = all_free;
+        }
+    }
+}
