@@ -1,0 +1,89 @@
+use borrow.Author.Needs.{needs}
+use mathlib.Core.Path.{_≡_, refl, _∙_}
+use Prim.Native.Nat.{_≤_}
+use native.Mathlib.Omega.{arith}
+use lib.ListN.{length}
+use Rattle.feeding.proofs.answer_all.Statement.{statement}
+use Rattle.feeding.proofs.answer_all.Tie as tie
+use Rattle.feeding.proofs.answer_all.Reads as reads
+use Rattle.feeding.proofs.answer_all.Lts as lts
+use Rattle.io.proofs.write_all.Reads as write-all-reads
+use Rattle.protocol.proofs.answer_block.Reads as answer-block-reads
+
+abbrev Inv-loop : tie.InvT-loop
+Inv-loop output block out₀ day₀ next₀ turns₀ out day next turns = length out ≡ length out₀
+
+abbrev μ-loop : tie.MeasureT-loop
+μ-loop output block out₀ day₀ next₀ turns₀ out day next turns = turns
+
+loop-holds : tie.Need-loop-holds Inv-loop μ-loop
+loop-holds c = search needs
+
+same-length : tie.Need-same-length Inv-loop μ-loop
+same-length c = search needs
+
+returns : tie.Need-returns Inv-loop μ-loop
+returns c = search needs
+
+sub-turns : tie.Need-sub-turns Inv-loop μ-loop
+sub-turns c = search needs
+
+answer-block-requires : tie.Need-answer-block-requires Inv-loop μ-loop
+answer-block-requires c κs = search needs
+
+sub-write-all : tie.Need-sub-write-all Inv-loop μ-loop
+sub-write-all c = search needs
+
+part-write-all-start : tie.Need-part-write-all-start Inv-loop μ-loop
+part-write-all-start c = search needs
+
+part-write-all-end : tie.Need-part-write-all-end Inv-loop μ-loop
+part-write-all-end c =
+    let b = c .before .before .before .before .answer-block in
+    let l = c .before .before .before .before .before .before .before .before .loop in
+    let k : length (b .last .1 .1 .1 .0) ≡ length (l .out) = b .kept .1 .1 .1 .0 in
+    let w : b .result .written ≤ length (l .out) = omega (arith, b .ensures .wrote .within) in
+    omega arith
+
+write-all-requires : tie.Need-write-all-requires Inv-loop μ-loop
+write-all-requires c κs = search needs
+
+same-length-2 : tie.Need-same-length-2 Inv-loop μ-loop
+same-length-2 c = search needs
+
+returns-2 : tie.Need-returns-2 Inv-loop μ-loop
+returns-2 c = search needs
+
+loop-less : tie.Need-loop-less Inv-loop μ-loop
+loop-less c = search needs
+
+loop-again : tie.Need-loop-again Inv-loop μ-loop
+loop-again c = search needs
+
+same-length-3 : tie.Need-same-length-3 Inv-loop μ-loop
+same-length-3 c = search needs
+
+returns-3 : tie.Need-returns-3 Inv-loop μ-loop
+returns-3 c = search needs
+
+pub answer-all-spec : {M : Type 1} → statement M
+answer-all-spec =
+    tie.close
+    (tie.spec
+    Inv-loop
+    μ-loop
+    loop-holds
+    same-length
+    returns
+    sub-turns
+    answer-block-requires
+    sub-write-all
+    part-write-all-start
+    part-write-all-end
+    write-all-requires
+    same-length-2
+    returns-2
+    loop-less
+    loop-again
+    same-length-3
+    returns-3)

@@ -1,0 +1,110 @@
+use borrow.Author.Needs.{needs}
+use mathlib.Core.Path.{_≡_}
+use lib.ListN.{length}
+use Rattle.feeding.proofs.answer_stream.Statement.{statement}
+use Rattle.feeding.proofs.answer_stream.Tie as tie
+use Rattle.feeding.proofs.answer_stream.Reads as reads
+use Rattle.feeding.proofs.answer_stream.Lts as lts
+use Rattle.feeding.proofs.answer_all.Reads as answer-all-reads
+use Rattle.feeding.proofs.end.Reads as end-reads
+use Rattle.io.proofs.count.Reads as count-reads
+use Rattle.io.proofs.large_buffer.Reads as large-buffer-reads
+use Rattle.libc.proofs.read.Reads as read-reads
+use Rattle.protocol.proofs.start.Reads as start-reads
+
+abbrev Inv-loop : tie.InvT-loop
+Inv-loop input output block₀ out₀ day₀ turns₀ block out day turns = (length block ≡ 65536) × (length out ≡ 262144)
+
+abbrev μ-loop : tie.MeasureT-loop
+μ-loop input output block₀ out₀ day₀ turns₀ block out day turns = turns
+
+large-buffer-requires : tie.Need-large-buffer-requires Inv-loop μ-loop
+large-buffer-requires c κs = search needs
+
+start-requires : tie.Need-start-requires Inv-loop μ-loop
+start-requires c κs = search needs
+
+loop-holds : tie.Need-loop-holds Inv-loop μ-loop
+loop-holds c = search needs
+
+sub-turns : tie.Need-sub-turns Inv-loop μ-loop
+sub-turns c = search needs
+
+slice-aggregate-read : tie.Need-slice-aggregate-read Inv-loop μ-loop
+slice-aggregate-read c = search needs
+
+read-requires : tie.Need-read-requires Inv-loop μ-loop
+read-requires c κs = search needs
+
+slice-aggregate-end : tie.Need-slice-aggregate-end Inv-loop μ-loop
+slice-aggregate-end c = search needs
+
+end-requires : tie.Need-end-requires Inv-loop μ-loop
+end-requires c κs = search needs
+
+returns : tie.Need-returns Inv-loop μ-loop
+returns c = search needs
+
+slice-aggregate-count : tie.Need-slice-aggregate-count Inv-loop μ-loop
+slice-aggregate-count c = search needs
+
+count-requires : tie.Need-count-requires Inv-loop μ-loop
+count-requires c κs = search needs
+
+returns-2 : tie.Need-returns-2 Inv-loop μ-loop
+returns-2 c = search needs
+
+sub-answer-all : tie.Need-sub-answer-all Inv-loop μ-loop
+sub-answer-all c = search needs
+
+part-answer-all-start : tie.Need-part-answer-all-start Inv-loop μ-loop
+part-answer-all-start c = search needs
+
+part-answer-all-end : tie.Need-part-answer-all-end Inv-loop μ-loop
+part-answer-all-end c = search needs
+
+slice-aggregate-answer-all : tie.Need-slice-aggregate-answer-all Inv-loop μ-loop
+slice-aggregate-answer-all c = search needs
+
+answer-all-requires : tie.Need-answer-all-requires Inv-loop μ-loop
+answer-all-requires c κs = search needs
+
+returns-3 : tie.Need-returns-3 Inv-loop μ-loop
+returns-3 c = search needs
+
+loop-less : tie.Need-loop-less Inv-loop μ-loop
+loop-less c = search needs
+
+loop-again : tie.Need-loop-again Inv-loop μ-loop
+loop-again c = search needs
+
+returns-4 : tie.Need-returns-4 Inv-loop μ-loop
+returns-4 c = search needs
+
+pub answer-stream-spec : {M : Type 1} → statement M
+answer-stream-spec =
+    tie.close
+    (tie.spec
+    Inv-loop
+    μ-loop
+    large-buffer-requires
+    start-requires
+    loop-holds
+    sub-turns
+    slice-aggregate-read
+    read-requires
+    slice-aggregate-end
+    end-requires
+    returns
+    slice-aggregate-count
+    count-requires
+    returns-2
+    sub-answer-all
+    part-answer-all-start
+    part-answer-all-end
+    slice-aggregate-answer-all
+    answer-all-requires
+    returns-3
+    loop-less
+    loop-again
+    returns-4)

@@ -1,0 +1,71 @@
+// Days that come through a file descriptor: read in blocks, answered by the crate protocol, and the answers written. A failed read or
+// write ends a day quietly.
+use protocol::Session;
+
+// A day so far, and whether its answers could be written.
+pub struct Sent {
+    pub session: Session,
+    pub ok: bool,
+}
+
+// Answers a block. The answers are written at its end, and before it where `out` is full.
+fn answer_all(output: i32, session: Session, block: &[u8], out: &mut [u8]) -> Sent {
+    let mut day = session;
+    let mut next = 0;
+    let mut turns = u64::MAX;
+    while next < block.len() {
+        if turns == 0 {
+            return Sent {
+                session: day,
+                ok: false,
+            };
+        }
+        turns -= 1;
+        let done = protocol::answer_block(day, block, next, out);
+        let written = done.written;
+        day = done.session;
+        next = done.next;
+        if !io::write_all(output, &out[0..written]) {
+            return Sent {
+                session: day,
+                ok: false,
+            };
+        }
+    }
+    Sent {
+        session: day,
+        ok: true,
+    }
+}
+
+// The end of the input: a last line may lack its newline.
+fn end(output: i32, session: Session, out: &mut [u8]) {
+    let written = protocol::end_of_input(session, out);
+    io::write_all(output, &out[0..written]);
+}
+
+// A day from `input` to `output`. One read a turn, so that lines that come one by one are answered as they come. The turns are counted
+// down from a number that no run uses up, since a proved loop has to end.
+pub fn answer_stream(input: i32, output: i32) {
+    let mut block = io::large_buffer();
+    let mut out = [0u8; 262144];
+    let mut day = protocol::start();
+    let mut turns = u64::MAX;
+    while turns > 0 {
+        turns -= 1;
+        let got = libc::read(input, &mut block);
+        if got == 0 {
+            end(output, day, &mut out);
+            return;
+        }
+        let count = io::count(got, &block);
+        if count == 0 {
+            return;
+        }
+        let sent = answer_all(output, day, &block[0..count], &mut out);
+        if !sent.ok {
+            return;
+        }
+        day = sent.session;
+    }
+}

@@ -1,0 +1,45 @@
+-- `printing::put` meets its contract: a word, numbers and a newline, one behind the other, are the line.
+use native.Mathlib.Omega.{arith}
+use Prim.Native.Nat.{_+_, _≤_}
+use Rattle.printing.specs.Model.{lineText}
+use Rattle.printing.specs.Puts.{puts-then, puts-length}
+use borrow.Author.Needs.{needs}
+use Rattle.printing.proofs.put.Statement.{statement}
+use Rattle.printing.proofs.put.Tie as tie
+
+put-word-requires : tie.Need-put-word-requires
+put-word-requires c κs = search needs
+
+put-numbers-requires : tie.Need-put-numbers-requires
+put-numbers-requires c κs = search needs
+
+slice-aggregate-put-text : tie.Need-slice-aggregate-put-text
+slice-aggregate-put-text c = search needs
+
+put-text-requires : tie.Need-put-text-requires
+put-text-requires c κs = search needs
+
+same-length : tie.Need-same-length
+same-length c = search needs
+
+returns : tie.Need-returns
+unfolding lineText
+returns c =
+    let a = c .before .before .before .before .before .before .before .before .before .before .before .before .before .before .before .args in
+    let w = c .before .before .before .before .before .before .before .before .before .before .before .put-word .ensures in
+    let n = c .before .before .before .before .before .before .before .put-numbers .ensures in
+    let t = c .before .before .put-text .ensures in
+    let h : c .before .before .put-text .result ≤ a .at + 160 = omega (arith, w .1, n .1, t .place) in
+    let p = puts-then (w .0) (puts-then (n .0) t (omega (arith, puts-length (w .0) (omega arith)))) (omega arith) in
+    (p .place, h, p .bytes)
+
+pub put-spec : {M : Type 1} → statement M
+put-spec =
+    tie.close
+    (tie.spec
+    put-word-requires
+    put-numbers-requires
+    slice-aggregate-put-text
+    put-text-requires
+    same-length
+    returns)

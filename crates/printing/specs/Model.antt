@@ -1,0 +1,58 @@
+-- An answer and the line that it is, in the words of document 01: a word, then numbers, parted by tabs, and a newline.
+-- Everything here is a definition; nothing is assumed.
+use Prim.Native.Nat.{ℕ, zero, suc, _+_, _/_, _%_}
+use mathlib.Core.List.{List, [], _∷_, _++_}
+use mathlib.Core.Bool.{cond}
+use lib.Dec.{leb, eqb}
+
+abbrev pub tab : ℕ
+tab = 9
+
+abbrev pub newline : ℕ
+newline = 10
+
+-- ---- Numbers
+
+-- the last k digits of n in base ten
+unfoldable pub digits : ℕ → ℕ → List ℕ
+digits zero n = []
+digits (suc k) n = digits k (n / 10) ++ (48 + n % 10) ∷ []
+
+-- how many of these powers of ten n reaches
+unfoldable pub reached : ℕ → List ℕ → ℕ
+reached n [] = 0
+reached n (p ∷ ps) = cond (leb p n) (suc (reached n ps)) 0
+
+-- ten, a hundred, … up to the greatest below 2⁶⁴
+abbrev pub powers : List ℕ
+powers =
+    10 ∷ 100 ∷ 1_000 ∷ 10_000 ∷ 100_000 ∷ 1_000_000 ∷ 10_000_000 ∷ 100_000_000 ∷ 1_000_000_000 ∷ 10_000_000_000 ∷ 100_000_000_000 ∷ 1_000_000_000_000
+    ∷ 10_000_000_000_000 ∷ 100_000_000_000_000 ∷ 1_000_000_000_000_000 ∷ 10_000_000_000_000_000 ∷ 100_000_000_000_000_000 ∷ 1_000_000_000_000_000_000
+    ∷ 10_000_000_000_000_000_000 ∷ []
+
+-- a number below 2⁶⁴ in base ten, without leading zeros
+unfoldable pub decimal : ℕ → List ℕ
+decimal n = digits (suc (reached n powers)) n
+
+-- ---- Words
+
+-- open, yes, chunk, clock, account and no are words 1 to 6
+unfoldable pub wordOf : ℕ → List ℕ
+wordOf k =
+    cond (eqb k 1) (111 ∷ 112 ∷ 101 ∷ 110 ∷ [])
+    (cond (eqb k 2) (121 ∷ 101 ∷ 115 ∷ [])
+    (cond (eqb k 3) (99 ∷ 104 ∷ 117 ∷ 110 ∷ 107 ∷ [])
+    (cond (eqb k 4) (99 ∷ 108 ∷ 111 ∷ 99 ∷ 107 ∷ [])
+    (cond (eqb k 5) (97 ∷ 99 ∷ 99 ∷ 111 ∷ 117 ∷ 110 ∷ 116 ∷ [])
+    (cond (eqb k 6) (110 ∷ 111 ∷ []) [])))))
+
+-- ---- A line
+
+-- numbers, each behind a tab
+unfoldable pub tabbed : List ℕ → List ℕ
+tabbed [] = []
+tabbed (n ∷ ns) = (tab ∷ decimal n) ++ tabbed ns
+
+-- a word and its numbers, with the newline
+unfoldable pub lineText : ℕ → List ℕ → List ℕ
+lineText k ns = wordOf k ++ (tabbed ns ++ newline ∷ [])

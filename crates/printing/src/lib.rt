@@ -1,0 +1,141 @@
+// Text out: the line of an answer. It knows words and numbers, and no farm. What each function means is in specs/Model.antt.
+ghost use mathlib.Core.Path.{_≡_};
+ghost use mathlib.Core.List.{_∷_, _++_};
+ghost use Prim.Native.Nat.{suc, _+_, _*_, _≤_};
+ghost use lib.ListN.{length, take, drop};
+ghost use Rattle.printing.specs.Model.{digits, reached, powers, decimal, wordOf, tab, tabbed, lineText};
+ghost use Rattle.printing.specs.Puts.{Puts};
+
+// An answer's line: the word (1 to 6 for open, yes, chunk, clock, account and no) and the first `count` numbers.
+pub struct Line {
+    pub word: u64,
+    pub count: usize,
+    pub numbers: [u64; 7],
+}
+
+// Ten, a hundred, up to the greatest power of ten below 2^64.
+const POWERS: [u64; 19] = [
+    10,
+    100,
+    1000,
+    10000,
+    100000,
+    1000000,
+    10000000,
+    100000000,
+    1000000000,
+    10000000000,
+    100000000000,
+    1000000000000,
+    10000000000000,
+    100000000000000,
+    1000000000000000,
+    10000000000000000,
+    100000000000000000,
+    1000000000000000000,
+    10000000000000000000,
+];
+
+// Writes a text at place `at` and answers the place behind it, as each function below does.
+fn put_text(out: &mut [u8], at: usize, text: &[u8]) -> usize
+    requires { ⌜ at + length (now text) ≤ length (now out) ⌝ }
+    ensures { λ r. ⌜ Puts (now (text .entry)) (now (out .entry)) at (now (out .exit)) r ⌝ }
+{
+    let mut i = 0;
+    while i < text.len() {
+        out[at + i] = text[i];
+        i += 1;
+    }
+    at + i
+}
+
+// A word by its number; another number writes nothing.
+fn put_word(out: &mut [u8], at: usize, word: u64) -> usize
+    requires { ⌜ at + 7 ≤ length (now out) ⌝ }
+    ensures { λ r. ⌜ Puts (wordOf word) (now (out .entry)) at (now (out .exit)) r × (r ≤ at + 7) ⌝ }
+{
+    if word == 1 {
+        return put_text(out, at, b"open");
+    }
+    if word == 2 {
+        return put_text(out, at, b"yes");
+    }
+    if word == 3 {
+        return put_text(out, at, b"chunk");
+    }
+    if word == 4 {
+        return put_text(out, at, b"clock");
+    }
+    if word == 5 {
+        return put_text(out, at, b"account");
+    }
+    if word == 6 {
+        return put_text(out, at, b"no");
+    }
+    at
+}
+
+// How many digits a number has.
+fn places(n: u64) -> usize
+    ensures { λ r. ⌜ r ≡ suc (reached n powers) ⌝ }
+{
+    let mut i = 0;
+    while i < 19 {
+        if n < POWERS[i] {
+            return i + 1;
+        }
+        i += 1;
+    }
+    i + 1
+}
+
+// The last k digits of a number, from the last to the first.
+fn put_digits(out: &mut [u8], at: usize, k: usize, n: u64) -> usize
+    requires { ⌜ at + k ≤ length (now out) ⌝ }
+    ensures { λ r. ⌜ Puts (digits k n) (now (out .entry)) at (now (out .exit)) r ⌝ }
+{
+    let mut i = k;
+    let mut rest = n;
+    while i > 0 {
+        i -= 1;
+        out[at + i] = 48 + (rest % 10) as u8;
+        rest /= 10;
+    }
+    at + k
+}
+
+// A tab and a number in base ten.
+fn put_number(out: &mut [u8], at: usize, n: u64) -> usize
+    requires { ⌜ at + 21 ≤ length (now out) ⌝ }
+    ensures { λ r. ⌜ Puts (tab ∷ decimal n) (now (out .entry)) at (now (out .exit)) r × (r ≤ at + 21) ⌝ }
+{
+    let next = put_text(out, at, b"\t");
+    let k = places(n);
+    put_digits(out, next, k, n)
+}
+
+// The first `count` numbers, each behind a tab.
+fn put_numbers(out: &mut [u8], at: usize, numbers: [u64; 7], count: usize) -> usize
+    requires { ⌜ (count ≤ 7) × (at + 21 * count ≤ length (now out)) ⌝ }
+    ensures { λ r. ⌜ Puts (tabbed (take count numbers)) (now (out .entry)) at (now (out .exit)) r × (r ≤ at + 21 * count) ⌝ }
+{
+    let mut place = at;
+    let mut i = 0;
+    while i < count {
+        place = put_number(out, place, numbers[i]);
+        i += 1;
+    }
+    place
+}
+
+// Writes the line at place `at` and answers the place behind it. A line takes at most 160 bytes.
+pub fn put(out: &mut [u8], at: usize, line: Line) -> usize
+    requires { ⌜ (line .count ≤ 7) × (at + 160 ≤ length (now out)) ⌝ }
+    ensures { λ r. ⌜ (r ≡ at + length (lineText (line .word) (take (line .count) (line .numbers)))) × (r ≤ at + 160)
+        × (now (out .exit) ≡ take at (now (out .entry)) ++ (lineText (line .word) (take (line .count) (line .numbers)) ++ drop r (now (out .entry)))) ⌝ }
+{
+    let numbers = line.numbers;
+    let word_end = put_word(out, at, line.word);
+    let line_end = put_numbers(out, word_end, numbers, line.count);
+    put_text(out, line_end, b"\n")
+}

@@ -1,0 +1,19 @@
+-- `answer::chunks_before` meets its contract: a clock line tells its count, another line none.
+use borrow.Author.Needs.{needs}
+use borrow.Author.Tests.{eq-eqb, ne-eqb}
+use Rattle.protocol.proofs.answer.chunks_before.Statement.{statement}
+use Rattle.protocol.proofs.answer.chunks_before.Tie as tie
+use Rattle.protocol.proofs.answer.chunks_before.Reads as reads
+use Rattle.protocol.proofs.answer.chunks_before.Lts as lts
+
+array-read-result : tie.Need-array-read-result
+array-read-result c = search needs
+
+returns : tie.Need-returns
+returns c = rw (eq-eqb _ _ (c .if1 .taken))
+
+returns-2 : tie.Need-returns-2
+returns-2 c = rw (ne-eqb _ _ (c .if1 .left))
+
+pub chunks-before-spec : {M : Type 1} → statement M
+chunks-before-spec = tie.close (tie.spec array-read-result returns returns-2)

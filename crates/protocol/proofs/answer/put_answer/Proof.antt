@@ -1,0 +1,42 @@
+-- `answer::put_answer` meets its contract: the line of an answer is its text.
+use borrow.Author.Needs.{needs}
+use mathlib.Core.Path.{_≡_, ap, subst, _∙_}
+use mathlib.Core.List.{List}
+use denote.Ref.{now}
+use Rattle.planner.specs.Calls.{said}
+use Rattle.protocol.specs.Model.{answerText}
+use Rattle.protocol.specs.Writing.{Wrote}
+use Prim.Native.Nat.{ℕ, _≤_}
+use native.Mathlib.Omega.{arith}
+use Rattle.printing.specs.declared.Line.{Line}
+use Rattle.protocol.specs.Lines.{line-text, line-count, textOf}
+use Rattle.protocol.proofs.answer.put_answer.Statement.{statement}
+use Rattle.protocol.proofs.answer.put_answer.Tie as tie
+use Rattle.protocol.proofs.answer.put_answer.Reads as reads
+use Rattle.protocol.proofs.answer.put_answer.Lts as lts
+use Rattle.printing.proofs.put.Reads as put-reads
+use Rattle.protocol.proofs.answer.line_of.Reads as line-of-reads
+
+line-of-requires : tie.Need-line-of-requires
+line-of-requires c κs = search needs
+
+put-requires : tie.Need-put-requires
+put-requires c κs =
+    let a = c .before .before .before .args in
+    let few : c .line-of .result .count ≤ 7 = rw (c .line-of .ensures) (line-count (a .word) (a .answer)) in
+    (few, omega arith)
+
+same-length : tie.Need-same-length
+same-length c = search needs
+
+returns : tie.Need-returns
+returns c =
+    let a = c .before .before .before .before .before .before .args in
+    let l = c .before .before .before .line-of in
+    let p = c .before .before .put in
+    let e : textOf (l .result) ≡ answerText (a .word) (said (a .answer)) = ap textOf (l .ensures) ∙ line-text (a .word) (a .answer) in
+    subst (λ (t : List ℕ). Wrote t (a .at) 160 (now (a .out)) (p .last .0) (p .result)) e
+    (record { place = p .ensures .0; within = p .ensures .1; memory = p .ensures .2 })
+
+pub put-answer-spec : {M : Type 1} → statement M
+put-answer-spec = tie.close (tie.spec line-of-requires put-requires same-length returns)

@@ -1,0 +1,86 @@
+-- `answer::put_chunks` meets its contract: the lines written so far are those of the chunks passed.
+use borrow.Author.Needs.{needs}
+use mathlib.Core.Path.{_≡_, refl, ap, subst, sym, _∙_}
+use mathlib.Core.List.{List, _++_}
+use Prim.Native.Nat.{ℕ, _+_, _-_, _*_, _≤_}
+use native.Mathlib.Omega.{arith}
+use denote.Ref.{now}
+use lib.ListN.{length, take, getD}
+use Rattle.protocol.specs.Model.{chunkTexts, chunkText}
+use Rattle.protocol.specs.Lines.{chunk-next}
+use Rattle.protocol.specs.Writing.{Wrote, wrote-none, wrote-join, wrote-length}
+use Rattle.protocol.proofs.answer.put_chunks.Statement.{statement}
+use Rattle.protocol.proofs.answer.put_chunks.Tie as tie
+use Rattle.protocol.proofs.answer.put_chunks.Reads as reads
+use Rattle.protocol.proofs.answer.put_chunks.Lts as lts
+use Rattle.printing.proofs.put.Reads as put-reads
+use Rattle.protocol.proofs.answer.chunk_line.Reads as chunk-line-reads
+
+abbrev Inv-loop : tie.InvT-loop
+Inv-loop out₀ at count chunks i₀ place₀ out i place =
+    (i ≤ count) × Wrote (chunkTexts (take i chunks)) at (i * 160) out₀ out place × (length out ≡ length out₀)
+
+abbrev μ-loop : tie.MeasureT-loop
+μ-loop out₀ at count chunks i₀ place₀ out i place = count - i
+
+loop-holds : tie.Need-loop-holds Inv-loop μ-loop
+unfolding chunkTexts
+loop-holds c = (omega arith, wrote-none (c .before .args .at) 0 (c .before .args .out .now), refl)
+
+mul-chunk-line : tie.Need-mul-chunk-line Inv-loop μ-loop
+mul-chunk-line c = search needs
+
+array-copy-out-chunk-line : tie.Need-array-copy-out-chunk-line Inv-loop μ-loop
+array-copy-out-chunk-line c = search needs
+
+chunk-line-requires : tie.Need-chunk-line-requires Inv-loop μ-loop
+chunk-line-requires c κs = search needs
+
+put-requires : tie.Need-put-requires Inv-loop μ-loop
+put-requires c κs = let w = c .before .before .before .before .loop .inv .1 .within in (c .chunk-line .ensures .0, omega arith)
+
+add-i : tie.Need-add-i Inv-loop μ-loop
+add-i c = search needs
+
+loop-less : tie.Need-loop-less Inv-loop μ-loop
+loop-less c = search needs
+
+loop-again : tie.Need-loop-again Inv-loop μ-loop
+loop-again c =
+    let a = c .before .before .before .before .before .before .before .before .before .args in
+    let l = c .before .before .before .before .before .before .before .loop in
+    let p = c .before .before .put in
+    let k = c .before .before .before .chunk-line in
+    let w = l .inv .1 .within in
+    let z : Wrote (chunkTexts (take (l .i + 1) (a .t3))) (a .at) ((l .i + 1) * 160) (a .out .now) (p .last .0) (p .result) =
+    chunk-next (a .t3) (l .i) (a .at) _ (a .out .now) (l .out) (p .last .0) (l .place) (p .result) (k .result) (search needs) (omega arith) (k .ensures .1) (l .inv .1)
+    (record { place = p .ensures .0; within = p .ensures .1; memory = p .ensures .2 }) in
+    let y = z .within in
+    (omega arith, z, wrote-length (chunkTexts (take (l .i + 1) (a .t3))) (a .at) ((l .i + 1) * 160) (a .out .now) (p .last .0) (p .result) z (omega arith))
+
+same-length : tie.Need-same-length Inv-loop μ-loop
+same-length c = search needs
+
+returns : tie.Need-returns Inv-loop μ-loop
+returns c =
+    let a = c .before .before .before .args in
+    let l = c .before .loop in
+    let e : l .i ≡ a .count = omega arith in
+    subst (λ (n : ℕ). Wrote (chunkTexts (take n (a .t3))) (a .at) (n * 160) (now (a .out)) (l .out) (l .place)) e (l .inv .1)
+
+pub put-chunks-spec : {M : Type 1} → statement M
+put-chunks-spec =
+    tie.close
+    (tie.spec
+    Inv-loop
+    μ-loop
+    loop-holds
+    mul-chunk-line
+    array-copy-out-chunk-line
+    chunk-line-requires
+    put-requires
+    add-i
+    loop-less
+    loop-again
+    same-length
+    returns)

@@ -1,0 +1,40 @@
+-- `kept::row_of` meets its contract: the record of the kept line.
+use borrow.Author.Needs.{needs}
+use mathlib.Core.Path.{_≡_, refl, ap, sym, _∙_}
+use Prim.Native.Nat.{_-_}
+use lib.ListN.{take}
+use Rattle.reading.specs.Model.{rowOf}
+use native.Mathlib.Omega.{arith}
+use borrow.Author.Tests.{le-leb, lt-leb}
+use Rattle.protocol.proofs.Sizes.{bytes-length}
+use Rattle.protocol.proofs.kept.row_of.Statement.{statement}
+use Rattle.protocol.proofs.kept.row_of.Tie as tie
+use Rattle.protocol.proofs.kept.row_of.Reads as reads
+use Rattle.protocol.proofs.kept.row_of.Lts as lts
+use Rattle.reading.proofs.read.Reads as read-reads
+
+returns : tie.Need-returns
+returns c = rw (lt-leb _ _ (c .if1 .taken))
+
+sub-read : tie.Need-sub-read
+sub-read c = search needs
+
+part-read-start : tie.Need-part-read-start
+part-read-start c = search needs
+
+part-read-end : tie.Need-part-read-end
+part-read-end c = let n = bytes-length (c .before .before .before .args .rest) (c .before .before .before .good .0) in omega arith
+
+read-requires : tie.Need-read-requires
+read-requires c κs = search needs
+
+returns-2 : tie.Need-returns-2
+returns-2 c =
+    let r = c .before .before .before .before .before .args .rest in
+    let z : r .fill - 0 ≡ r .fill = omega arith in
+    let e : c .read .result ≡ rowOf (take (r .fill) (r .bytes)) = rw z at (c .read .ensures) in
+    rw (le-leb _ _ (c .before .before .before .if1 .left)) e
+
+pub row-of-spec : {M : Type 1} → statement M
+row-of-spec =
+    tie.close (tie.spec returns sub-read part-read-start part-read-end read-requires returns-2)

@@ -1,0 +1,136 @@
+-- A block, line by line.
+use mathlib.Core.Path.{_≡_, refl, ap, ap₂, sym, subst, _∙_}
+use mathlib.Core.List.{List, [], _∷_, _++_, append-nil}
+use mathlib.Core.Bool.{Bool, true, false, cond}
+use Prim.Native.Nat.{ℕ, zero, suc, _+_, _-_, _≤_, _<_}
+use native.Mathlib.Omega.{arith}
+use borrow.Author.Tests.{le-leb, lt-leb, leb-true}
+use lib.Seq.{length-take-le}
+use lib.Dec.{leb}
+use lib.ListN.{length, take, drop}
+use Rattle.planner.specs.declared.Farm.{Farm}
+use Rattle.reading.specs.Model.{newline, before}
+use Rattle.protocol.specs.declared.Rest.{Rest}
+use Rattle.protocol.specs.declared.Session.{Session}
+use Rattle.protocol.specs.declared.Progress.{Progress}
+use Rattle.protocol.specs.Model.{Answered, answered, unread, Pending, part, long, ended, Fed, behind, feed, atEnd, longest}
+use Rattle.protocol.specs.Feeding.{stretch, keptAll, endedFed, fed-line, fed-rest}
+use Rattle.protocol.specs.Rows.{pendingOf}
+use Rattle.protocol.specs.Writing.{Wrote, wrote-none, wrote-join, wrote-length, Took, largest, endText}
+
+module _ (f : Farm) (r : Rest) (block : List ℕ) (from : ℕ) (entry : List ℕ) where
+  -- what the bytes up to a place come to
+  abbrev pub upTo : ℕ → Fed
+  upTo next = feed f (pendingOf r) (stretch from next block)
+
+  -- the day so far, at a place of the block
+  pub record Going (farm : Farm) (rest : Rest) (next at : ℕ) (out : List ℕ) : Type 0 where
+    pub onward : from ≤ next
+    pub inside : from ≤ length block → next ≤ length block
+    pub farms : upTo next .farm ≡ farm
+    pub pending : upTo next .pending ≡ pendingOf rest
+    pub wrote : Wrote (upTo next .text) 0 (length entry) entry out at
+    pub size : length out ≡ length entry
+
+  nothing-yet : upTo from ≡ record { farm = f; pending = pendingOf r; text = [] }
+  unfolding feed
+  nothing-yet = let e : from - from ≡ 0 = omega arith in rw e
+
+  -- nothing has been taken yet
+  pub going-start : Going f r from 0 entry
+  going-start = record {
+    onward = omega arith;
+    inside = λ h. h;
+    farms = ap (λ (x : Fed). x .farm) nothing-yet;
+    pending = ap (λ (x : Fed). x .pending) nothing-yet;
+    wrote = subst (λ (t : List ℕ). Wrote t 0 (length entry) entry entry 0) (sym (ap (λ (x : Fed). x .text) nothing-yet)) (wrote-none 0 (length entry) entry);
+    size = refl;
+  }
+
+  module _ (farm : Farm) (rest : Rest) (next at : ℕ) (out : List ℕ) (g : Going farm rest next at out) where
+    -- the block ends, or there is no room
+    pub going-took : (next < length block → length entry < at + largest) → Took (record { farm = f; rest = r }) block from entry out (record { session = record { farm = farm; rest = rest }; next = next; written = at })
+    going-took h = record {
+      onward = g .onward;
+      inside = g .inside;
+      stops = h;
+      farm = sym (g .farms);
+      pending = sym (g .pending);
+      wrote = g .wrote;
+    }
+
+    module _ (end : ℕ) (line : Rest) (e : end ≡ next + before newline (drop next block)) (l : pendingOf line ≡ keptAll (pendingOf rest) (stretch next end block)) where
+      kept-line : keptAll (upTo next .pending) (stretch next end block) ≡ pendingOf line
+      kept-line = ap (λ (p : Pending). keptAll p (stretch next end block)) (g .pending) ∙ sym l
+
+      -- no newline is left
+      pub going-rest : end ≡ length block → Took (record { farm = f; rest = r }) block from entry out (record { session = record { farm = farm; rest = line }; next = end; written = at })
+      going-rest h =
+          let x = fed-rest f (pendingOf r) block from next end (upTo next) (g .onward) e refl h in
+          record {
+            onward = omega (arith, g .onward);
+            inside = λ k. omega arith;
+            stops = λ k. absurd (omega arith);
+            farm = sym (ap (λ (y : Fed). y .farm) x ∙ g .farms);
+            pending = sym (ap (λ (y : Fed). y .pending) x ∙ kept-line);
+            wrote = subst (λ (t : List ℕ). Wrote t 0 (length entry) entry out at) (sym (ap (λ (y : Fed). y .text) x ∙ append-nil (upTo next .text))) (g .wrote);
+          }
+
+      -- a line ends and is answered
+      pub going-line : (x : Answered) (later : Farm) (empty : Rest) (most place : ℕ) (back : List ℕ) → end < length block → ended farm (pendingOf line) ≡ x → later ≡ x .farm → pendingOf empty ≡ part []
+          → Wrote (x .text) at most out back place → place ≤ length entry → Going later empty (end + 1) place back
+      going-line x later empty most place back h a d z w k =
+          let y = fed-line f (pendingOf r) block from next end (upTo next) (g .onward) e refl h in
+          let b : ended (upTo next .farm) (keptAll (upTo next .pending) (stretch next end block)) ≡ x = ap₂ ended (g .farms) kept-line ∙ a in
+          let room : at ≤ length entry = omega (arith, g .wrote .within) in
+          let all : Wrote (upTo next .text ++ x .text) 0 (length entry) entry back place =
+          wrote-join (upTo next .text) 0 (length entry) entry out at (g .wrote) room (x .text) most (length entry) back place w (omega arith) in
+          record {
+            onward = omega (arith, g .onward);
+            inside = λ q. omega arith;
+            farms = ap (λ (u : Fed). u .farm) y ∙ ap (λ (u : Answered). u .farm) b ∙ sym d;
+            pending = ap (λ (u : Fed). u .pending) y ∙ sym z;
+            wrote = subst (λ (t : List ℕ). Wrote t 0 (length entry) entry back place) (sym (ap (λ (u : Fed). u .text) y ∙ ap (λ (u : Answered). upTo next .text ++ u .text) b)) all;
+            size = wrote-length (upTo next .text ++ x .text) 0 (length entry) entry back place all k;
+          }
+
+-- ---- The end of the input
+
+pub end-small : (s : Session) (room : ℕ) → room < largest → endText s room ≡ []
+end-small s room h = rw (lt-leb largest room h)
+
+pub end-empty : (s : Session) (room : ℕ) → s .rest .fill ≡ 0 → endText s room ≡ []
+end-empty s room e = go (leb largest room)
+  where
+    none : atEnd (s .farm) (pendingOf (s .rest)) ≡ []
+    none = ap (λ (n : ℕ). atEnd (s .farm) (cond (leb n longest) (part (take n (s .rest .bytes))) long)) e
+
+    go : (b : Bool) → cond b (atEnd (s .farm) (pendingOf (s .rest))) [] ≡ []
+    go true = none
+    go false = refl
+
+end-part : (f : Farm) (l : List ℕ) → 1 ≤ length l → atEnd f (part l) ≡ ended f (part l) .text
+end-part f [] h = absurd (omega arith)
+end-part f (b ∷ l) h = refl
+
+pub end-line : (s : Session) (room : ℕ) → largest ≤ room → 1 ≤ s .rest .fill → length (s .rest .bytes) ≡ longest → endText s room ≡ ended (s .farm) (pendingOf (s .rest)) .text
+end-line s room h k n = rw (le-leb largest room h) (go (leb (s .rest .fill) longest) refl)
+  where
+    go : (b : Bool) → leb (s .rest .fill) longest ≡ b
+        → atEnd (s .farm) (cond b (part (take (s .rest .fill) (s .rest .bytes))) long) ≡ ended (s .farm) (cond b (part (take (s .rest .fill) (s .rest .bytes))) long) .text
+    go true e = end-part (s .farm) (take (s .rest .fill) (s .rest .bytes)) (omega (arith, leb-true (s .rest .fill) longest e, length-take-le (s .rest .fill) (s .rest .bytes) (omega (arith, leb-true (s .rest .fill) longest e))))
+    go false e = refl
+
+-- A newline ends the line that is pending.
+pub end-took : (s : Session) (entry exit : List ℕ) (r : Progress) → Took s (newline ∷ []) 0 entry exit r → largest ≤ length entry
+    → Wrote (ended (s .farm) (pendingOf (s .rest)) .text) 0 (length entry) entry exit (r .written)
+unfolding feed
+end-took s entry exit r t h = go (r .next) refl
+  where
+    at : (n : ℕ) → r .next ≡ n → Wrote (feed (s .farm) (pendingOf (s .rest)) (stretch 0 n (newline ∷ [])) .text) 0 (length entry) entry exit (r .written)
+    at n e = subst (λ (k : ℕ). Wrote (feed (s .farm) (pendingOf (s .rest)) (stretch 0 k (newline ∷ [])) .text) 0 (length entry) entry exit (r .written)) e (t .wrote)
+
+    go : (n : ℕ) → r .next ≡ n → Wrote (ended (s .farm) (pendingOf (s .rest)) .text) 0 (length entry) entry exit (r .written)
+    go zero e = absurd (omega (arith, at 0 e .place, t .stops (omega arith)))
+    go (suc zero) e = subst (λ (l : List ℕ). Wrote l 0 (length entry) entry exit (r .written)) (append-nil (ended (s .farm) (pendingOf (s .rest)) .text)) (at 1 e)
+    go (suc (suc n)) e = absurd (omega (arith, t .inside (omega arith)))

@@ -1,0 +1,92 @@
+-- A whole day: feeding it, in one block or in many, and ending it prints the answers of its lines one after the other.
+use mathlib.Core.Path.{_≡_, refl, ap, sym, _∙_}
+use mathlib.Core.List.{List, [], _∷_, _++_, append-nil, append-assoc}
+use mathlib.Core.Bool.{Bool, true, false, cond}
+use Prim.Native.Nat.{ℕ, _≤_, _<_}
+use native.Mathlib.Omega.{arith}
+use borrow.Author.Tests.{leb-true, leb-false, le-leb, lt-leb}
+use lib.Dec.{leb, eqb}
+use lib.ListN.{length}
+use Rattle.planner.specs.declared.Farm.{Farm}
+use Rattle.planner.specs.Calls.{unopened}
+use Rattle.reading.specs.Model.{newline, onFirst}
+use Rattle.protocol.specs.Model.{Answered, unread, answered, linesIn, answers, dayText, Pending, part, long, kept, ended, Fed, behind, feed, atEnd, longest}
+use Rattle.protocol.specs.Feeding.{feed-append, keptAll, kept-fits, kept-over}
+
+-- ---- Bytes in front of the first line
+
+unfoldable led : List ℕ → List (List ℕ) → List (List ℕ)
+led [] ls = ls
+led (b ∷ q) ls = onFirst b (led q ls)
+
+led-cons : (q l : List ℕ) (ls : List (List ℕ)) → led q (l ∷ ls) ≡ (q ++ l) ∷ ls
+unfolding led
+led-cons [] l ls = refl
+led-cons (b ∷ q) l ls = ap (onFirst b) (led-cons q l ls)
+
+led-nil : (b : ℕ) (q : List ℕ) → led (b ∷ q) [] ≡ (b ∷ q) ∷ []
+unfolding led
+led-nil b [] = refl
+led-nil b (c ∷ q) = ap (onFirst b) (led-nil c q)
+
+led-on : (q : List ℕ) (b : ℕ) (ls : List (List ℕ)) → led q (onFirst b ls) ≡ led (q ++ b ∷ []) ls
+unfolding led
+led-on [] b ls = refl
+led-on (c ∷ q) b ls = ap (onFirst c) (led-on q b ls)
+
+-- ---- A line kept byte by byte
+
+kept-snoc : (p : Pending) (q : List ℕ) (b : ℕ) → kept (keptAll p q) b ≡ keptAll p (q ++ b ∷ [])
+unfolding keptAll
+kept-snoc p [] b = refl
+kept-snoc p (c ∷ q) b = kept-snoc (kept p c) q b
+
+-- What is kept of a line is answered as the line is.
+pub ended-kept : (f : Farm) (q : List ℕ) → ended f (keptAll (part []) q) ≡ answered f q
+unfolding answered
+ended-kept f q = go (leb (length q) longest) refl
+  where
+    go : (t : Bool) → leb (length q) longest ≡ t → ended f (keptAll (part []) q) ≡ answered f q
+    go true e = ap (ended f) (kept-fits [] q (omega (arith, leb-true (length q) longest e)))
+    go false e = ap (ended f) (kept-over [] q (omega arith) (omega (arith, leb-false (length q) longest e))) ∙ rw e
+
+at-end-kept : (f : Farm) (q : List ℕ) → atEnd f (keptAll (part []) q) ≡ answers f (led q [])
+unfolding answers answered led keptAll
+at-end-kept f [] = refl
+at-end-kept f (b ∷ q) =
+    go (leb (length (b ∷ q)) longest) refl ∙ sym (append-nil (answered f (b ∷ q) .text)) ∙ ap (answers f) (sym (led-nil b q))
+  where
+    go : (t : Bool) → leb (length (b ∷ q)) longest ≡ t → atEnd f (keptAll (part []) (b ∷ q)) ≡ answered f (b ∷ q) .text
+    go true e = ap (atEnd f) (kept-fits [] (b ∷ q) (omega (arith, leb-true (length (b ∷ q)) longest e)))
+    go false e = ap (atEnd f) (kept-over [] (b ∷ q) (omega arith) (omega (arith, leb-false (length (b ∷ q)) longest e))) ∙ rw e
+
+-- ---- The day
+
+abbrev whole : Fed → List ℕ
+whole x = x .text ++ atEnd (x .farm) (x .pending)
+
+day-ends : (f : Farm) (q bs : List ℕ) (p : Pending) → ended f p ≡ answered f q → ((g : Farm) → whole (feed g (part []) bs) ≡ answers g (linesIn bs))
+    → whole (behind (ended f p .text) (feed (ended f p .farm) (part []) bs)) ≡ answers f (led q ([] ∷ linesIn bs))
+unfolding answers
+day-ends f q bs p e h =
+    append-assoc (ended f p .text) (feed (ended f p .farm) (part []) bs .text) _
+    ∙ ap (λ (l : List ℕ). ended f p .text ++ l) (h (ended f p .farm))
+    ∙ ap (λ (x : Answered). x .text ++ answers (x .farm) (linesIn bs)) e
+    ∙ ap (answers f) (sym (led-cons q [] (linesIn bs) ∙ ap (λ (l : List ℕ). l ∷ linesIn bs) (append-nil q)))
+
+day-from : (f : Farm) (q bs : List ℕ) → whole (feed f (keptAll (part []) q) bs) ≡ answers f (led q (linesIn bs))
+unfolding feed linesIn keptAll led
+day-from f q [] = at-end-kept f q
+day-from f q (b ∷ bs) = go (eqb b newline) (λ (g : Farm). day-from g [] bs) (day-from f (q ++ b ∷ []) bs)
+  where
+    go : (t : Bool) → ((g : Farm) → whole (feed g (part []) bs) ≡ answers g (linesIn bs))
+        → whole (feed f (keptAll (part []) (q ++ b ∷ [])) bs) ≡ answers f (led (q ++ b ∷ []) (linesIn bs))
+        → whole (cond t (behind (ended f (keptAll (part []) q) .text) (feed (ended f (keptAll (part []) q) .farm) (part []) bs)) (feed f (kept (keptAll (part []) q) b) bs))
+        ≡ answers f (led q (cond t ([] ∷ linesIn bs) (onFirst b (linesIn bs))))
+    go true h k = day-ends f q bs (keptAll (part []) q) (ended-kept f q) h
+    go false h k = ap (λ (p : Pending). whole (feed f p bs)) (kept-snoc (part []) q b) ∙ k ∙ ap (answers f) (sym (led-on q b (linesIn bs)))
+
+-- Feeding a whole input from an unopened farm and ending it prints the answers of its lines.
+pub day-text : (bs : List ℕ) → whole (feed unopened (part []) bs) ≡ dayText bs
+unfolding keptAll led
+day-text bs = day-from unopened [] bs

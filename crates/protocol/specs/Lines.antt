@@ -1,0 +1,116 @@
+-- The line of an answer, as the crate printing takes it, and the chunk lines of a clock move.
+use mathlib.Core.Path.{_≡_, refl, ap, sym, subst, _∙_}
+use mathlib.Core.List.{List, [], _∷_, _++_, append-nil, append-assoc}
+use mathlib.Core.Bool.{Bool, true, false, cond}
+use Prim.Native.Nat.{ℕ, suc, _+_, _*_, _-_, _≤_, _<_}
+use native.Mathlib.Numerals.{add-one}
+use native.Mathlib.Omega.{arith}
+use borrow.Author.Tests.{eqb-true}
+use lib.Dec.{leb, eqb}
+use lib.ListN.{length, getD, take, drop, replicate}
+use lib.Seq.{take-at, take-suc}
+use Rattle.walk.specs.declared.Chunk.{Chunk}
+use Rattle.planner.specs.declared.Farm.{Farm}
+use Rattle.planner.specs.declared.Question.{Question}
+use Rattle.planner.specs.declared.Answer.{Answer}
+use Rattle.planner.specs.declared.Question.the-variants as question
+use Rattle.planner.specs.declared.Answer.the-variants as answer
+use Rattle.planner.specs.Calls.{Said, said, numberOf}
+use Rattle.planner.specs.Clock.{issued, moveAsked, moveSaid, moveMemory}
+use Rattle.planner.specs.MoveKept.{move-granted}
+use Rattle.printing.specs.declared.Line.{Line}
+use Rattle.printing.specs.Model.{lineText}
+use Rattle.protocol.specs.Writing.{Wrote, wrote-join}
+use Rattle.protocol.specs.Model.{answerText, chunkText, chunkTexts, moveLines, noWord, clockWord, chunkWord, lent}
+
+-- ---- An answer's line
+
+abbrev pub padded : List ℕ → List ℕ
+padded vs = vs ++ replicate (7 - length vs) 0
+
+-- its word and values where it was granted, else `no` and the number
+unfoldable pub lineWith : ℕ → Said → Line
+lineWith w s =
+    cond (eqb (s .number) 0)
+    (record { word = w; count = length (s .values); numbers = padded (s .values) })
+    (record { word = noWord; count = 1; numbers = padded (s .number ∷ []) })
+
+abbrev pub textOf : Line → List ℕ
+textOf l = lineText (l .word) (take (l .count) (l .numbers))
+
+pub no-number : (q : Question) → eqb (numberOf q) 0 ≡ false
+no-number question.Nodes = refl
+no-number question.Costs = refl
+no-number question.Shows = refl
+no-number question.Show = refl
+no-number question.Size = refl
+no-number question.Deadline = refl
+no-number question.Queue = refl
+no-number question.Walk = refl
+no-number question.Time = refl
+no-number question.Lines = refl
+no-number question.Farm = refl
+
+pub line-text : (w : ℕ) (a : Answer) → textOf (lineWith w (said a)) ≡ answerText w (said a)
+unfolding lineWith answerText
+line-text w (answer.Open n s) = refl
+line-text w (answer.Yes j s t k) = refl
+line-text w (answer.Clock t n) = refl
+line-text w (answer.Shown n) = refl
+line-text w (answer.Account s h c) = refl
+line-text w (answer.No q) = rw (no-number q)
+
+pub line-count : (w : ℕ) (a : Answer) → lineWith w (said a) .count ≤ 7
+unfolding lineWith
+line-count w (answer.Open n s) = omega arith
+line-count w (answer.Yes j s t k) = omega arith
+line-count w (answer.Clock t n) = omega arith
+line-count w (answer.Shown n) = omega arith
+line-count w (answer.Account s h c) = omega arith
+line-count w (answer.No q) = rw (no-number q) (omega arith)
+
+-- ---- The chunk lines of a clock move
+
+-- how many chunk lines stand before a clock line: as many as it says, none before `no`
+abbrev pub chunksBefore : Line → ℕ
+chunksBefore l = cond (eqb (l .word) clockWord) (getD (l .numbers) 1 0) 0
+
+pub lines-said : (f : Farm) (t : ℕ) → chunksBefore (lineWith clockWord (moveSaid f t lent)) ≡ length (moveLines f t)
+unfolding lineWith moveSaid moveLines
+lines-said f t = go (eqb (moveAsked f t lent) 0) refl
+  where
+    go : (b : Bool) → eqb (moveAsked f t lent) 0 ≡ b → chunksBefore (lineWith clockWord (moveSaid f t lent)) ≡ length (moveLines f t)
+    go true e = rw e
+    go false e = rw (e, e)
+
+pub few-lines : (f : Farm) (t : ℕ) → length (moveLines f t) ≤ lent
+unfolding moveLines
+few-lines f t = go (eqb (moveAsked f t lent) 0) refl
+  where
+    go : (b : Bool) → eqb (moveAsked f t lent) 0 ≡ b → length (cond b (issued f t) []) ≤ lent
+    go true e = move-granted f t lent (eqb-true (moveAsked f t lent) 0 e) .lines
+    go false e = omega arith
+
+-- the lines stand at the front of the lent memory
+pub lines-front : (f : Farm) (t : ℕ) (m : List Chunk) → length m ≡ lent → take (length (moveLines f t)) (moveMemory f t m) ≡ moveLines f t
+unfolding moveLines moveMemory
+lines-front f t m h = rw h (go (eqb (moveAsked f t lent) 0))
+  where
+    go : (b : Bool) → take (length (cond b (issued f t) [])) (cond b (issued f t ++ drop (length (issued f t)) m) m) ≡ cond b (issued f t) []
+    go true = take-at (issued f t) (drop (length (issued f t)) m) (length (issued f t)) refl
+    go false = refl
+
+-- one chunk line more
+texts-snoc : (xs : List Chunk) (x : Chunk) → chunkTexts (xs ++ x ∷ []) ≡ chunkTexts xs ++ chunkText x
+unfolding chunkTexts
+texts-snoc [] x = append-nil (chunkText x)
+texts-snoc (y ∷ xs) x = ap (λ (l : List ℕ). chunkText y ++ l) (texts-snoc xs x) ∙ sym (append-assoc (chunkText y) (chunkTexts xs) (chunkText x))
+
+-- One chunk line more is written.
+pub chunk-next : (xs : List Chunk) (i at : ℕ) (d : Chunk) (e x y : List ℕ) (r s : ℕ) (l : Line) → i < length xs → r ≤ length e → textOf l ≡ chunkText (getD xs i d)
+    → Wrote (chunkTexts (take i xs)) at (i * 160) e x r → Wrote (textOf l) r 160 x y s → Wrote (chunkTexts (take (i + 1) xs)) at ((i + 1) * 160) e y s
+chunk-next xs i at d e x y r s l h k t a b =
+    let more : chunkTexts (take i xs) ++ textOf l ≡ chunkTexts (take (i + 1) xs) =
+    ap (λ (z : List ℕ). chunkTexts (take i xs) ++ z) t ∙ sym (rw (add-one i, take-suc xs i d h) (texts-snoc (take i xs) (getD xs i d))) in
+    subst (λ (z : List ℕ). Wrote z at ((i + 1) * 160) e y s) more
+    (wrote-join (chunkTexts (take i xs)) at (i * 160) e x r a k (textOf l) 160 ((i + 1) * 160) y s b (omega (arith, a .within, b .within)))

@@ -1,0 +1,162 @@
+-- A line and its row of numbers: the row keeps 33 allowances, and an opening asks no more of them than of all.
+use mathlib.Core.Path.{_≡_, refl, ap, sym, _∙_}
+use mathlib.Core.List.{List, [], _∷_, _++_}
+use mathlib.Core.Bool.{Bool, true, false, cond, _&&_, false≢true}
+use Prim.Native.Nat.{ℕ, zero, suc, _+_, _-_, _≤_, _<_, min}
+use native.Mathlib.Omega.{arith}
+use borrow.Author.Tests.{leb-true, leb-false, le-leb, lt-leb, eqb-true}
+use lib.Dec.{leb, eqb}
+use lib.ListN.{length, getD, take, drop, replicate, length-take, length-replicate, length-map, getD-replicate}
+use lib.Seq.{take-all, take-nil, drop-nil, take-at, length-take-le, getD-take}
+use Rattle.shares.specs.declared.Costs.{Costs}
+use Rattle.planner.specs.declared.Farm.{Farm}
+use Rattle.planner.specs.Calls.{Said, openSaid, openFarm, showsWithin}
+use Rattle.reading.specs.declared.Row.{Row}
+use Rattle.reading.specs.Model.{fields, firstOf, othersOf, kindOf, fits, readable, allNumbers, value, numbersOf, rowWith, rowOf}
+use Rattle.protocol.specs.declared.Rest.{Rest}
+use Rattle.protocol.specs.Model.{Answered, unread, costsIn, farmLine, jobLine, clockLine, accountLine, recorded, answered, longest, Pending, part, long, ended, answerText, openWord}
+
+-- ---- Rows
+
+-- what is pending of a line, as the code keeps it
+abbrev pub pendingOf : Rest → Pending
+pendingOf r = cond (leb (r .fill) longest) (part (take (r .fill) (r .bytes))) long
+
+-- the row of a line that ends
+abbrev pub rowIn : Pending → Row
+rowIn (part l) = rowOf l
+rowIn long = rowWith 0 []
+
+-- an opening by a row
+abbrev pub allowancesIn : Row → List ℕ
+allowancesIn r = take (r .count - 5) (drop 5 (r .numbers))
+
+abbrev pub farmRow : Row → Answered
+farmRow r = record {
+  farm = openFarm (getD (r .numbers) 0 0) (costsIn (r .numbers)) (allowancesIn r);
+  text = answerText openWord (openSaid (getD (r .numbers) 0 0) (costsIn (r .numbers)) (allowancesIn r));
+}
+
+-- the answer of a row
+unfoldable pub byRow : Farm → Row → Answered
+byRow f r =
+    cond (f .opened)
+    (cond (eqb (r .kind) 2) (jobLine f (r .numbers)) (cond (eqb (r .kind) 3) (clockLine f (getD (r .numbers) 0 0)) (cond (eqb (r .kind) 4) (accountLine f (getD (r .numbers) 0 0)) (unread f))))
+    (cond (eqb (r .kind) 1) (farmRow r) (unread f))
+
+-- the row of a farm has its nodes and costs
+abbrev pub FarmRow : Row → Type 0
+FarmRow r = r .kind ≡ 1 → (5 ≤ r .count) × (r .count ≤ 38)
+
+-- ---- Lists
+
+drop-take : (m n : ℕ) (l : List ℕ) → drop m (take n l) ≡ take (n - m) (drop m l)
+drop-take zero n l = let e : n - 0 ≡ n = omega arith in rw e
+drop-take (suc m) zero l = let e : 0 - suc m ≡ 0 = omega arith in rw e
+drop-take (suc m) (suc n) [] = sym (take-nil (suc n - suc m))
+drop-take (suc m) (suc n) (x ∷ l) = let e : suc n - suc m ≡ n - m = omega arith in rw e (drop-take m n l)
+
+-- the numbers that a row keeps
+abbrev keep : ℕ → List ℕ → List ℕ
+keep n ns = take n ns ++ replicate (n - length ns) 0
+
+kept-at : (n : ℕ) (ns : List ℕ) (i : ℕ) → i < n → getD (keep n ns) i 0 ≡ getD ns i 0
+kept-at zero ns i h = absurd (omega arith)
+kept-at (suc n) [] i h = let e : suc n - 0 ≡ suc n = omega arith in rw e (getD-replicate (suc n) i 0 0 h)
+kept-at (suc n) (x ∷ ns) zero h = refl
+kept-at (suc n) (x ∷ ns) (suc i) h = let e : suc n - suc (length ns) ≡ n - length ns = omega arith in rw e (kept-at n ns i (omega arith))
+
+kept-front : (n : ℕ) (ns : List ℕ) → take (min n (length ns)) (keep n ns) ≡ take n ns
+kept-front n ns = take-at (take n ns) (replicate (n - length ns) 0) (min n (length ns)) (length-take n ns)
+
+-- ---- Over 32 allowances
+
+many-shows : (al : List ℕ) → 32 < length al → showsWithin al ≡ false
+many-shows al h = rw (le-leb 1 (length al) (omega arith), lt-leb (length al) 32 h)
+
+shows-33 : (al : List ℕ) (P : List ℕ → List ℕ → Type 0) → (P al al) → (33 < length al → P (take 33 al) al) → P (take 33 al) al
+shows-33 al P h k = go (leb (length al) 33) refl
+  where
+    go : (t : Bool) → leb (length al) 33 ≡ t → P (take 33 al) al
+    go true e = rw (take-all 33 al (leb-true (length al) 33 e)) h
+    go false e = k (leb-false (length al) 33 e)
+
+-- An opening asks the same of the first 33 allowances as of all.
+pub open-33 : (n : ℕ) (c : Costs) (al : List ℕ) → openSaid n c (take 33 al) ≡ openSaid n c al
+unfolding openSaid
+open-33 n c al =
+    shows-33 al (λ (x y : List ℕ). openSaid n c x ≡ openSaid n c y) refl
+    (λ h. rw (many-shows al (omega arith), many-shows (take 33 al) (omega (arith, length-take-le 33 al (omega arith)))))
+
+and-false : (b : Bool) → (b && false) ≡ false
+and-false true = refl
+and-false false = refl
+
+pub open-farm-33 : (n : ℕ) (c : Costs) (al : List ℕ) → openFarm n c (take 33 al) ≡ openFarm n c al
+unfolding openFarm
+open-farm-33 n c al =
+    shows-33 al (λ (x y : List ℕ). openFarm n c x ≡ openFarm n c y) refl
+    (λ h. rw (many-shows al (omega arith), many-shows (take 33 al) (omega (arith, length-take-le 33 al (omega arith))), and-false))
+
+-- ---- The answer of a row is the answer of its line
+
+job-same : (f : Farm) (xs ys : List ℕ) → getD xs 0 0 ≡ getD ys 0 0 → getD xs 1 0 ≡ getD ys 1 0 → getD xs 2 0 ≡ getD ys 2 0 → jobLine f xs ≡ jobLine f ys
+unfolding jobLine
+job-same f xs ys a b c = rw (a, b, c)
+
+row-allowances : (k : ℕ) (ns : List ℕ) → allowancesIn (rowWith k ns) ≡ take 33 (drop 5 ns)
+row-allowances k ns =
+    sym (drop-take 5 (min 38 (length ns)) (keep 38 ns)) ∙ ap (drop 5) (kept-front 38 ns) ∙ drop-take 5 38 ns
+
+farm-same : (k : ℕ) (ns : List ℕ) → farmRow (rowWith k ns) ≡ farmLine ns
+unfolding farmLine
+farm-same k ns =
+    rw (row-allowances k ns, kept-at 38 ns 0 (omega arith), kept-at 38 ns 1 (omega arith), kept-at 38 ns 2 (omega arith), kept-at 38 ns 3 (omega arith), kept-at 38 ns 4 (omega arith), open-33, open-farm-33)
+
+pub row-recorded : (f : Farm) (k : ℕ) (ns : List ℕ) → byRow f (rowWith k ns) ≡ recorded f k ns
+unfolding byRow recorded
+row-recorded f k ns =
+    rw (farm-same k ns, job-same f (keep 38 ns) ns (kept-at 38 ns 0 (omega arith)) (kept-at 38 ns 1 (omega arith)) (kept-at 38 ns 2 (omega arith)), kept-at 38 ns 0 (omega arith))
+
+no-row : (f : Farm) → byRow f (rowWith 0 []) ≡ unread f
+unfolding byRow
+no-row f = go (f .opened)
+  where
+    go : (t : Bool) → cond t (unread f) (unread f) ≡ unread f
+    go true = refl
+    go false = refl
+
+-- A line is answered as its row is.
+pub line-row : (f : Farm) (l : List ℕ) → length l ≤ longest → answered f l ≡ byRow f (rowOf l)
+unfolding answered rowOf
+line-row f l h = rw (le-leb (length l) longest h) (go (readable l))
+  where
+    go : (t : Bool) → cond t (recorded f (kindOf (firstOf (fields l))) (numbersOf l)) (unread f) ≡ byRow f (cond t (rowWith (kindOf (firstOf (fields l))) (numbersOf l)) (rowWith 0 []))
+    go true = sym (row-recorded f (kindOf (firstOf (fields l))) (numbersOf l))
+    go false = sym (no-row f)
+
+-- So is what the code keeps of a line.
+pub rest-row : (f : Farm) (r : Rest) → ended f (pendingOf r) ≡ byRow f (rowIn (pendingOf r))
+rest-row f r = go (leb (r .fill) longest) refl
+  where
+    go : (t : Bool) → leb (r .fill) longest ≡ t → ended f (cond t (part (take (r .fill) (r .bytes))) long) ≡ byRow f (rowIn (cond t (part (take (r .fill) (r .bytes))) long))
+    go true e = line-row f (take (r .fill) (r .bytes)) (omega (arith, leb-true (r .fill) longest e, length-take (r .fill) (r .bytes)))
+    go false e = sym (no-row f)
+
+five : (k n : ℕ) (b : Bool) → k ≡ 1 → (fits k n && b) ≡ true → 5 ≤ n
+five k n b e h = go (leb 5 n) refl (rw e at h)
+  where
+    go : (t : Bool) → leb 5 n ≡ t → (t && b) ≡ true → 5 ≤ n
+    go true q h = leb-true 5 n q
+    go false q h = absurd (false≢true h)
+
+-- The row of a line that is a farm has at least its nodes and costs.
+pub row-farm : (p : Pending) → FarmRow (rowIn p)
+unfolding rowOf readable
+row-farm long e = absurd (omega arith)
+row-farm (part l) e = go (readable l) refl e
+  where
+    go : (t : Bool) → readable l ≡ t → cond t (rowWith (kindOf (firstOf (fields l))) (numbersOf l)) (rowWith 0 []) .kind ≡ 1
+        → (5 ≤ cond t (rowWith (kindOf (firstOf (fields l))) (numbersOf l)) (rowWith 0 []) .count) × (cond t (rowWith (kindOf (firstOf (fields l))) (numbersOf l)) (rowWith 0 []) .count ≤ 38)
+    go true e k = let n = five (kindOf (firstOf (fields l))) (length (othersOf (fields l))) (allNumbers (othersOf (fields l))) k e in let m = length-map (othersOf (fields l)) value in (omega arith, omega arith)
+    go false e k = absurd (omega arith)

@@ -1,0 +1,147 @@
+// The lines of answers.
+ghost use mathlib.Core.Path.{_≡_};
+ghost use Prim.Native.Nat.{_+_, _*_, _≤_};
+ghost use lib.ListN.{length, take};
+ghost use Rattle.planner.specs.Calls.{said, numberOf};
+ghost use Rattle.protocol.specs.Model.{answerText, refusal, chunkText, chunkTexts};
+ghost use Rattle.protocol.specs.Lines.{lineWith, chunksBefore, textOf};
+ghost use Rattle.protocol.specs.Writing.{Wrote};
+use planner::Answer;
+use planner::Question;
+use printing::Line;
+use printing::put;
+use walk::Chunk;
+
+// The number of a question.
+fn number_of(question: Question) -> u64
+    ensures { λ r. ⌜ r ≡ numberOf question ⌝ }
+{
+    match question {
+        Question::Nodes => 1,
+        Question::Costs => 2,
+        Question::Shows => 3,
+        Question::Show => 4,
+        Question::Size => 5,
+        Question::Deadline => 6,
+        Question::Queue => 7,
+        Question::Walk => 8,
+        Question::Time => 9,
+        Question::Lines => 10,
+        Question::Farm => 11,
+    }
+}
+
+// The line of an answer: the word with its values where it was granted, `no` with its number where it was refused.
+pub fn line_of(answer: Answer, word: u64) -> Line
+    ensures { λ r. ⌜ r ≡ lineWith word (said answer) ⌝ }
+{
+    match answer {
+        Answer::Open { nodes, shows } => Line {
+            word,
+            count: 2,
+            numbers: [nodes, shows, 0, 0, 0, 0, 0],
+        },
+        Answer::Yes {
+            job,
+            start,
+            finish,
+            nodes,
+        } => Line {
+            word,
+            count: 4,
+            numbers: [job, start, finish, nodes, 0, 0, 0],
+        },
+        Answer::Clock { time, lines } => Line {
+            word,
+            count: 2,
+            numbers: [time, lines, 0, 0, 0, 0, 0],
+        },
+        Answer::Shown { lines } => Line {
+            word,
+            count: 1,
+            numbers: [lines, 0, 0, 0, 0, 0, 0],
+        },
+        Answer::Account {
+            show,
+            held,
+            charged,
+        } => Line {
+            word,
+            count: 3,
+            numbers: [show, held, charged, 0, 0, 0, 0],
+        },
+        Answer::No(question) => Line {
+            word: 6,
+            count: 1,
+            numbers: [number_of(question), 0, 0, 0, 0, 0, 0],
+        },
+    }
+}
+
+// The line of a chunk: the record's seven fields.
+fn chunk_line(chunk: Chunk) -> Line
+    ensures { λ r. ⌜ (r .count ≤ 7) × (textOf r ≡ chunkText chunk) ⌝ }
+{
+    Line {
+        word: 3,
+        count: 7,
+        numbers: [
+            chunk.job,
+            chunk.show,
+            chunk.node,
+            chunk.units,
+            chunk.start,
+            chunk.sent,
+            chunk.finish,
+        ],
+    }
+}
+
+// Writes the answer to a call at place `at`, and answers the place behind it.
+pub fn put_answer(out: &mut [u8], at: usize, answer: Answer, word: u64) -> usize
+    requires { ⌜ at + 160 ≤ length (now out) ⌝ }
+    ensures { λ r. ⌜ Wrote (answerText word (said answer)) at 160 (now (out .entry)) (now (out .exit)) r ⌝ }
+{
+    put(out, at, line_of(answer, word))
+}
+
+// Writes `no` 11: the line cannot be read, or not in its turn.
+pub fn put_unread(out: &mut [u8], at: usize) -> usize
+    requires { ⌜ at + 160 ≤ length (now out) ⌝ }
+    ensures { λ r. ⌜ Wrote (refusal 11) at 160 (now (out .entry)) (now (out .exit)) r ⌝ }
+{
+    put(
+        out,
+        at,
+        Line {
+            word: 6,
+            count: 1,
+            numbers: [11, 0, 0, 0, 0, 0, 0],
+        },
+    )
+}
+
+// How many chunk lines stand before the line of a clock move.
+pub fn chunks_before(line: Line) -> u64
+    ensures { λ r. ⌜ r ≡ chunksBefore line ⌝ }
+{
+    let numbers = line.numbers;
+    if line.word == 4 {
+        return numbers[1];
+    }
+    0
+}
+
+// Writes the lines of the first `count` chunks at place `at`, and answers the place behind them.
+pub fn put_chunks(out: &mut [u8], at: usize, chunks: [Chunk; 1024], count: usize) -> usize
+    requires { ⌜ (count ≤ 1024) × (at + count * 160 ≤ length (now out)) ⌝ }
+    ensures { λ r. ⌜ Wrote (chunkTexts (take count chunks)) at (count * 160) (now (out .entry)) (now (out .exit)) r ⌝ }
+{
+    let mut i = 0;
+    let mut place = at;
+    while i < count {
+        place = put(out, place, chunk_line(chunks[i]));
+        i += 1;
+    }
+    place
+}

@@ -1,0 +1,112 @@
+// A day fed in blocks.
+ghost use mathlib.Core.Path.{_≡_};
+ghost use mathlib.Core.List.{[]};
+ghost use lib.ListN.{length};
+ghost use Rattle.planner.specs.Calls.{unopened};
+ghost use Rattle.protocol.specs.Model.{part};
+ghost use Rattle.protocol.specs.Rows.{pendingOf};
+ghost use Rattle.protocol.specs.Writing.{Took, Wrote, endText};
+use crate::Progress;
+use crate::Rest;
+use crate::Session;
+use crate::answer::put_unread;
+use crate::kept::row_of;
+use crate::kept::with_bytes;
+use crate::step::answer_row;
+use crate::step::put_account;
+use planner::Farm;
+use reading::find;
+use shares::Costs;
+
+// The start of a day: an unopened farm, and nothing of a line. The farm is the one that a refused opening hands back.
+pub fn start() -> Session
+    ensures { λ r. ⌜ (r .farm ≡ unopened) × (pendingOf (r .rest) ≡ part []) ⌝ }
+{
+    let costs = Costs {
+        send: 0,
+        compute: 0,
+        link: 0,
+        node: 0,
+    };
+    let none = [0u64; 1];
+    let reply = Farm::open(0, costs, &none);
+    let farm = reply.farm;
+    Session {
+        farm,
+        rest: Rest {
+            fill: 0,
+            bytes: [0; 1024],
+        },
+    }
+}
+
+// Answers the lines of a block from place `from` on, at the front of `out`. It stops at the block's end, where the rest of an
+// unfinished line is kept, or where `out` may not hold the next answer.
+pub fn answer_block(session: Session, block: &[u8], from: usize, out: &mut [u8]) -> Progress
+    ensures { λ r. ⌜ Took session (now (block .entry)) from (now (out .entry)) (now (out .exit)) r ⌝ }
+{
+    if out.len() < 164000 {
+        return Progress {
+            session,
+            next: from,
+            written: 0,
+        };
+    }
+    let last = out.len() - 164000;
+    let mut farm = session.farm;
+    let mut rest = session.rest;
+    let mut next = from;
+    let mut at = 0;
+    while next < block.len() {
+        if last < at {
+            return Progress {
+                session: Session { farm, rest },
+                next,
+                written: at,
+            };
+        }
+        let end = find(block, next, b'\n');
+        let line = with_bytes(rest, block, next, end);
+        if end == block.len() {
+            return Progress {
+                session: Session { farm, rest: line },
+                next: end,
+                written: at,
+            };
+        }
+        rest.fill = 0;
+        next = end + 1;
+        let row = row_of(line);
+        let kind = row.kind;
+        if kind == 0 {
+            at = put_unread(out, at);
+        } else if kind == 4 {
+            at = put_account(farm, row, out, at);
+        } else {
+            let done = answer_row(farm, row, out, at);
+            farm = done.farm;
+            at = done.at;
+        }
+    }
+    Progress {
+        session: Session { farm, rest },
+        next,
+        written: at,
+    }
+}
+
+// The end of the input: what is pending is a line if it is not empty. It writes nothing where `out` may not hold the answer.
+pub fn end_of_input(session: Session, out: &mut [u8]) -> usize
+    ensures { λ r. ⌜ Wrote (endText session (length (now (out .entry)))) 0 (length (now (out .entry))) (now (out .entry)) (now (out .exit)) r ⌝ }
+{
+    let rest = session.rest;
+    if out.len() < 164000 {
+        return 0;
+    }
+    if rest.fill == 0 {
+        return 0;
+    }
+    let newline = [b'\n'];
+    let done = answer_block(session, &newline, 0, out);
+    done.written
+}

@@ -1,0 +1,36 @@
+// Text: the lines of a day and the answers that they get, fed in blocks. It knows farms and bytes, and neither reads nor writes a file.
+// What a line is answered and what a day prints is in specs/Model.antt.
+mod answer;
+mod blocks;
+mod kept;
+mod step;
+
+pub use blocks::answer_block;
+pub use blocks::end_of_input;
+pub use blocks::start;
+use planner::Farm;
+
+// What has come of a line that has not ended: its first `fill` bytes. A fill above 1,024 says that it is too long.
+pub struct Rest {
+    pub fill: usize,
+    pub bytes: [u8; 1024],
+}
+
+// A day so far: the farm, and what has come of the next line.
+pub struct Session {
+    pub farm: Farm,
+    pub rest: Rest,
+}
+
+// What a block comes to: the day so far, the place in the block that is next, and how many bytes of answers were written.
+pub struct Progress {
+    pub session: Session,
+    pub next: usize,
+    pub written: usize,
+}
+
+// The farm after a line, and the place behind its answer.
+pub struct Stepped {
+    pub farm: Farm,
+    pub at: usize,
+}

@@ -1,0 +1,227 @@
+// Text in: one line, given without its newline, and the record that it is. It knows bytes and numbers, and no farm.
+// What the public functions mean is in specs/Model.antt, what their parts work out in specs/Steps.antt.
+ghost use mathlib.Core.Path.{_≡_};
+ghost use Prim.Native.Nat.{min, _+_, _≤_};
+ghost use lib.ListN.{length, drop, set, replicate};
+ghost use Rattle.reading.specs.Model.{before, same, kindOf, fits, rowOf};
+ghost use Rattle.reading.specs.Steps.{numberIn, behind, gathered};
+
+// A line's record: kind 1 to 4 for farm, job, clock and account, 0 for a line that cannot be read; and its first numbers.
+pub struct Row {
+    pub kind: u64,
+    pub count: usize,
+    pub numbers: [u64; 38],
+}
+
+// A field: whether it is a number, and its value.
+struct Number {
+    known: bool,
+    value: u64,
+}
+
+const NO_NUMBER: Number = Number {
+    known: false,
+    value: 0,
+};
+
+// Fields: whether all are numbers, how many they are, and the first of them.
+struct Numbers {
+    known: bool,
+    count: usize,
+    numbers: [u64; 38],
+}
+
+// Where the byte stands next, at `from` or behind it; the length where it does not. It serves tabs and newlines alike.
+pub fn find(text: &[u8], from: usize, byte: u8) -> usize
+    requires { ⌜ from ≤ length (now text) ⌝ }
+    ensures { λ r. ⌜ (r ≡ from + before byte (drop from (now (text .entry)))) × (r ≤ length (now (text .entry))) ⌝ }
+{
+    let mut i = from;
+    while i < text.len() {
+        if text[i] == byte {
+            return i;
+        }
+        i += 1;
+    }
+    i
+}
+
+// ---- The kind
+
+// Whether both are the same bytes.
+fn is_word(word: &[u8], other: &[u8]) -> bool
+    ensures { λ r. ⌜ r ≡ same (now (word .entry)) (now (other .entry)) ⌝ }
+{
+    let n = word.len();
+    if n != other.len() {
+        return false;
+    }
+    let mut i = 0;
+    while i < n {
+        if word[i] != other[i] {
+            return false;
+        }
+        i += 1;
+    }
+    true
+}
+
+// 1 to 4 for farm, job, clock and account, 0 for another word.
+fn kind_of(word: &[u8]) -> u64
+    ensures { λ r. ⌜ r ≡ kindOf (now (word .entry)) ⌝ }
+{
+    if is_word(word, b"farm") {
+        return 1;
+    }
+    if is_word(word, b"job") {
+        return 2;
+    }
+    if is_word(word, b"clock") {
+        return 3;
+    }
+    if is_word(word, b"account") {
+        return 4;
+    }
+    0
+}
+
+// Whether a kind has that many numbers.
+fn fitting(kind: u64, count: usize) -> bool
+    ensures { λ r. ⌜ r ≡ fits kind count ⌝ }
+{
+    if kind == 1 {
+        return 5 <= count;
+    }
+    if kind == 2 {
+        return count == 3;
+    }
+    if kind == 3 {
+        return count == 1;
+    }
+    if kind == 4 {
+        return count == 1;
+    }
+    false
+}
+
+// ---- The numbers
+
+fn wide(b: u8) -> u64
+    ensures { λ r. ⌜ (r ≡ b) × (r ≤ 255) ⌝ }
+{
+    b as u64
+}
+
+// A field of 1 to 13 digits and its value.
+fn digits(field: &[u8]) -> Number
+    ensures { λ r. ⌜ r ≡ numberIn (now (field .entry)) ⌝ }
+{
+    let n = field.len();
+    if n < 1 {
+        return NO_NUMBER;
+    }
+    if 13 < n {
+        return NO_NUMBER;
+    }
+    let mut value: u64 = 0;
+    let mut i = 0;
+    while i < n {
+        let b = wide(field[i]);
+        if b < 48 {
+            return NO_NUMBER;
+        }
+        if 57 < b {
+            return NO_NUMBER;
+        }
+        value = value * 10 + (b - 48);
+        i += 1;
+    }
+    Number { known: true, value }
+}
+
+// A number is stored at its place; past the last place it is not.
+fn stored(numbers: [u64; 38], place: usize, value: u64) -> [u64; 38]
+    ensures { λ r. ⌜ r ≡ set numbers place value ⌝ }
+{
+    let mut next = numbers;
+    if place < 38 {
+        next[place] = value;
+        return next;
+    }
+    next
+}
+
+// The numbers in the fields behind the tab at `from`, up to the first that is none.
+fn gather(line: &[u8], from: usize) -> Numbers
+    requires { ⌜ from ≤ length (now line) ⌝ }
+    ensures { λ r. ⌜ r ≡ gathered 0 (replicate 38 0) (behind (drop from (now (line .entry)))) ⌝ }
+{
+    let n = line.len();
+    let mut numbers = [0u64; 38];
+    let mut count = 0;
+    let mut at = from;
+    while at < n {
+        let start = at + 1;
+        let end = find(line, start, 9);
+        let x = digits(&line[start..end]);
+        if !x.known {
+            return Numbers {
+                known: false,
+                count,
+                numbers,
+            };
+        }
+        let next = stored(numbers, count, x.value);
+        numbers = next;
+        count += 1;
+        at = end;
+    }
+    Numbers {
+        known: true,
+        count,
+        numbers,
+    }
+}
+
+// ---- A line
+
+// How many of so many numbers a row keeps.
+fn kept(count: usize) -> usize
+    ensures { λ r. ⌜ r ≡ min 38 count ⌝ }
+{
+    if count < 38 {
+        return count;
+    }
+    38
+}
+
+fn unreadable() -> Row
+    ensures { λ r. ⌜ r ≡ record { kind = 0; count = 0; numbers = replicate 38 0 } ⌝ }
+{
+    Row {
+        kind: 0,
+        count: 0,
+        numbers: [0; 38],
+    }
+}
+
+// The record of a line of any length and any bytes. Every field is read, also those whose numbers are not kept.
+pub fn read(line: &[u8]) -> Row
+    ensures { λ r. ⌜ r ≡ rowOf (now (line .entry)) ⌝ }
+{
+    let end = find(line, 0, 9);
+    let kind = kind_of(&line[0..end]);
+    let x = gather(line, end);
+    if !x.known {
+        return unreadable();
+    }
+    if !fitting(kind, x.count) {
+        return unreadable();
+    }
+    let numbers = x.numbers;
+    Row {
+        kind,
+        count: kept(x.count),
+        numbers,
+    }
+}
