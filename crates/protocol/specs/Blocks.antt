@@ -13,8 +13,8 @@ use Rattle.reading.specs.Model.{newline, before}
 use Rattle.protocol.specs.declared.Rest.{Rest}
 use Rattle.protocol.specs.declared.Session.{Session}
 use Rattle.protocol.specs.declared.Progress.{Progress}
-use Rattle.protocol.specs.Model.{Answered, answered, unread, Pending, part, long, ended, Fed, behind, feed, atEnd, longest}
-use Rattle.protocol.specs.Feeding.{stretch, keptAll, endedFed, fed-line, fed-rest}
+use Rattle.protocol.specs.Model.{Answered, answered, Pending, part, long, ended, Fed, feed, atEnd, longest}
+use Rattle.protocol.specs.Feeding.{stretch, keptAll, fed-line, fed-rest}
 use Rattle.protocol.specs.Rows.{pendingOf}
 use Rattle.protocol.specs.Writing.{Wrote, wrote-none, wrote-join, wrote-length, Took, largest, endText}
 

@@ -2,15 +2,15 @@
 use mathlib.Core.Path.{_≡_, refl, ap, sym, _∙_}
 use mathlib.Core.List.{List, [], _∷_, _++_, append-nil, append-assoc}
 use mathlib.Core.Bool.{Bool, true, false, cond}
-use Prim.Native.Nat.{ℕ, _≤_, _<_}
+use Prim.Native.Nat.{ℕ}
 use native.Mathlib.Omega.{arith}
-use borrow.Author.Tests.{leb-true, leb-false, le-leb, lt-leb}
+use borrow.Author.Tests.{leb-true, leb-false}
 use lib.Dec.{leb, eqb}
 use lib.ListN.{length}
 use Rattle.planner.specs.declared.Farm.{Farm}
 use Rattle.planner.specs.Calls.{unopened}
 use Rattle.reading.specs.Model.{newline, onFirst}
-use Rattle.protocol.specs.Model.{Answered, unread, answered, linesIn, answers, dayText, Pending, part, long, kept, ended, Fed, behind, feed, atEnd, longest}
+use Rattle.protocol.specs.Model.{Answered, answered, linesIn, answers, dayText, Pending, part, kept, ended, Fed, behind, feed, atEnd, longest}
 use Rattle.protocol.specs.Feeding.{feed-append, keptAll, kept-fits, kept-over}
 
 -- ---- Bytes in front of the first line
@@ -62,7 +62,8 @@ at-end-kept f (b ∷ q) =
 
 -- ---- The day
 
-abbrev whole : Fed → List ℕ
+-- what is printed once the input has ended
+abbrev pub whole : Fed → List ℕ
 whole x = x .text ++ atEnd (x .farm) (x .pending)
 
 day-ends : (f : Farm) (q bs : List ℕ) (p : Pending) → ended f p ≡ answered f q → ((g : Farm) → whole (feed g (part []) bs) ≡ answers g (linesIn bs))
@@ -90,3 +91,26 @@ day-from f q (b ∷ bs) = go (eqb b newline) (λ (g : Farm). day-from g [] bs) (
 pub day-text : (bs : List ℕ) → whole (feed unopened (part []) bs) ≡ dayText bs
 unfolding keptAll led
 day-text bs = day-from unopened [] bs
+
+-- ---- In blocks
+
+-- the bytes of all blocks
+unfoldable pub allBytes : List (List ℕ) → List ℕ
+allBytes [] = []
+allBytes (b ∷ bs) = b ++ allBytes bs
+
+-- one block after the other
+unfoldable pub feedAll : Farm → Pending → List (List ℕ) → Fed
+feedAll f p [] = record { farm = f; pending = p; text = [] }
+feedAll f p (b ∷ bs) = behind (feed f p b .text) (feedAll (feed f p b .farm) (feed f p b .pending) bs)
+
+-- Where the blocks end does not matter.
+pub feed-all : (f : Farm) (p : Pending) (bs : List (List ℕ)) → feedAll f p bs ≡ feed f p (allBytes bs)
+unfolding feedAll allBytes feed
+feed-all f p [] = refl
+feed-all f p (b ∷ bs) =
+    ap (behind (feed f p b .text)) (feed-all (feed f p b .farm) (feed f p b .pending) bs) ∙ sym (feed-append f p b (allBytes bs))
+
+-- Fed in any blocks and ended, a day prints the answers of its lines.
+pub blocks-text : (bs : List (List ℕ)) → whole (feedAll unopened (part []) bs) ≡ dayText (allBytes bs)
+blocks-text bs = ap whole (feed-all unopened (part []) bs) ∙ day-text (allBytes bs)

@@ -2,16 +2,15 @@
 use mathlib.Core.Path.{_≡_, refl, ap, sym, _∙_}
 use mathlib.Core.List.{List, [], _∷_, _++_, append-nil, append-assoc}
 use mathlib.Core.Bool.{Bool, true, false, cond}
-use Prim.Native.Nat.{ℕ, zero, suc, _+_, _-_, _≤_, _<_}
-use native.Mathlib.Numerals.{add-one}
+use Prim.Native.Nat.{ℕ, suc, _+_, _-_, _≤_, _<_}
 use native.Mathlib.Omega.{arith}
-use borrow.Author.Tests.{ltb-true, lt-ltb, le-ltb, le-leb, lt-leb}
-use lib.Dec.{ltb, leb, eqb}
+use borrow.Author.Tests.{ltb-true, lt-ltb}
+use lib.Dec.{ltb, eqb}
 use lib.ListN.{length, take, drop, length-append, length-drop}
-use lib.Seq.{take-add, drop-drop, take-all, append-snoc}
+use lib.Seq.{take-add, drop-drop, take-all}
 use Rattle.planner.specs.declared.Farm.{Farm}
-use Rattle.reading.specs.Model.{newline, before, onFirst}
-use Rattle.protocol.specs.Model.{Answered, unread, answered, linesIn, answers, Pending, part, long, kept, ended, Fed, behind, feed, atEnd, longest}
+use Rattle.reading.specs.Model.{newline, before}
+use Rattle.protocol.specs.Model.{Pending, part, long, kept, ended, Fed, behind, feed, longest}
 
 -- ---- Blocks
 

@@ -1,13 +1,13 @@
 -- What the code keeps of a line that has not ended.
-use mathlib.Core.Path.{_≡_, refl, ap, sym, _∙_}
-use mathlib.Core.List.{List, [], _∷_, _++_}
+use mathlib.Core.Path.{_≡_, sym}
+use mathlib.Core.List.{List}
 use Prim.Native.Nat.{ℕ, _+_, _-_, _≤_, _<_}
 use native.Mathlib.Omega.{arith}
 use borrow.Author.Tests.{le-leb, lt-leb}
-use lib.ListN.{length, take, length-take}
+use lib.ListN.{length, take}
 use lib.Seq.{paste, take-paste, length-take-le}
 use Rattle.protocol.specs.declared.Rest.{Rest}
-use Rattle.protocol.specs.Model.{longest, Pending, part, long}
+use Rattle.protocol.specs.Model.{longest, long}
 use Rattle.protocol.specs.Feeding.{keptAll, kept-long, kept-fits, kept-over}
 use Rattle.protocol.specs.Rows.{pendingOf}
 

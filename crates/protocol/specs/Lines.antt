@@ -2,11 +2,11 @@
 use mathlib.Core.Path.{_≡_, refl, ap, sym, subst, _∙_}
 use mathlib.Core.List.{List, [], _∷_, _++_, append-nil, append-assoc}
 use mathlib.Core.Bool.{Bool, true, false, cond}
-use Prim.Native.Nat.{ℕ, suc, _+_, _*_, _-_, _≤_, _<_}
+use Prim.Native.Nat.{ℕ, _+_, _*_, _-_, _≤_, _<_}
 use native.Mathlib.Numerals.{add-one}
 use native.Mathlib.Omega.{arith}
 use borrow.Author.Tests.{eqb-true}
-use lib.Dec.{leb, eqb}
+use lib.Dec.{eqb}
 use lib.ListN.{length, getD, take, drop, replicate}
 use lib.Seq.{take-at, take-suc}
 use Rattle.walk.specs.declared.Chunk.{Chunk}
@@ -21,7 +21,7 @@ use Rattle.planner.specs.MoveKept.{move-granted}
 use Rattle.printing.specs.declared.Line.{Line}
 use Rattle.printing.specs.Model.{lineText}
 use Rattle.protocol.specs.Writing.{Wrote, wrote-join}
-use Rattle.protocol.specs.Model.{answerText, chunkText, chunkTexts, moveLines, noWord, clockWord, chunkWord, lent}
+use Rattle.protocol.specs.Model.{answerText, chunkText, chunkTexts, moveLines, noWord, clockWord, lent}
 
 -- ---- An answer's line
 

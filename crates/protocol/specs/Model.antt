@@ -2,7 +2,7 @@
 -- Everything here is a definition; nothing is assumed. What a line's fields are is in the crate reading, how an answer is spelt in the crate printing.
 use Prim.Native.Nat.{ℕ}
 use mathlib.Core.List.{List, [], _∷_, _++_}
-use mathlib.Core.Bool.{Bool, cond}
+use mathlib.Core.Bool.{cond}
 use lib.Dec.{leb, ltb, eqb}
 use lib.ListN.{length, getD, drop}
 use Rattle.shares.specs.declared.Costs.{Costs}

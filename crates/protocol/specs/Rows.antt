@@ -4,13 +4,13 @@ use mathlib.Core.List.{List, [], _∷_, _++_}
 use mathlib.Core.Bool.{Bool, true, false, cond, _&&_, false≢true}
 use Prim.Native.Nat.{ℕ, zero, suc, _+_, _-_, _≤_, _<_, min}
 use native.Mathlib.Omega.{arith}
-use borrow.Author.Tests.{leb-true, leb-false, le-leb, lt-leb, eqb-true}
+use borrow.Author.Tests.{leb-true, leb-false, le-leb, lt-leb}
 use lib.Dec.{leb, eqb}
-use lib.ListN.{length, getD, take, drop, replicate, length-take, length-replicate, length-map, getD-replicate}
-use lib.Seq.{take-all, take-nil, drop-nil, take-at, length-take-le, getD-take}
+use lib.ListN.{length, getD, take, drop, replicate, length-take, length-map, getD-replicate}
+use lib.Seq.{take-all, take-nil, take-at, length-take-le}
 use Rattle.shares.specs.declared.Costs.{Costs}
 use Rattle.planner.specs.declared.Farm.{Farm}
-use Rattle.planner.specs.Calls.{Said, openSaid, openFarm, showsWithin}
+use Rattle.planner.specs.Calls.{openSaid, openFarm, showsWithin}
 use Rattle.reading.specs.declared.Row.{Row}
 use Rattle.reading.specs.Model.{fields, firstOf, othersOf, kindOf, fits, readable, allNumbers, value, numbersOf, rowWith, rowOf}
 use Rattle.protocol.specs.declared.Rest.{Rest}

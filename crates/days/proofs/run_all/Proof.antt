@@ -1,13 +1,9 @@
+-- `days::run_all` meets its contract.
 use borrow.Author.Needs.{needs}
 use Prim.Native.Nat.{_-_}
-use native.Mathlib.Omega.{arith}
 use lib.ListN.{length}
 use Rattle.days.proofs.run_all.Statement.{statement}
 use Rattle.days.proofs.run_all.Tie as tie
-use Rattle.days.proofs.run_all.Reads as reads
-use Rattle.days.proofs.run_all.Lts as lts
-use Rattle.days.proofs.run_day.Reads as run-day-reads
-use Rattle.reading.proofs.find.Reads as find-reads
 
 abbrev Inv-loop : tie.InvT-loop
 Inv-loop names next₀ next = Unit {0}

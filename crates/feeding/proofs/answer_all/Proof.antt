@@ -1,14 +1,11 @@
+-- `feeding::answer_all` meets its contract.
 use borrow.Author.Needs.{needs}
-use mathlib.Core.Path.{_≡_, refl, _∙_}
+use mathlib.Core.Path.{_≡_}
 use Prim.Native.Nat.{_≤_}
 use native.Mathlib.Omega.{arith}
 use lib.ListN.{length}
 use Rattle.feeding.proofs.answer_all.Statement.{statement}
 use Rattle.feeding.proofs.answer_all.Tie as tie
-use Rattle.feeding.proofs.answer_all.Reads as reads
-use Rattle.feeding.proofs.answer_all.Lts as lts
-use Rattle.io.proofs.write_all.Reads as write-all-reads
-use Rattle.protocol.proofs.answer_block.Reads as answer-block-reads
 
 abbrev Inv-loop : tie.InvT-loop
 Inv-loop output block out₀ day₀ next₀ turns₀ out day next turns = length out ≡ length out₀

@@ -1,16 +1,9 @@
+-- `feeding::answer_stream` meets its contract.
 use borrow.Author.Needs.{needs}
 use mathlib.Core.Path.{_≡_}
 use lib.ListN.{length}
 use Rattle.feeding.proofs.answer_stream.Statement.{statement}
 use Rattle.feeding.proofs.answer_stream.Tie as tie
-use Rattle.feeding.proofs.answer_stream.Reads as reads
-use Rattle.feeding.proofs.answer_stream.Lts as lts
-use Rattle.feeding.proofs.answer_all.Reads as answer-all-reads
-use Rattle.feeding.proofs.end.Reads as end-reads
-use Rattle.io.proofs.count.Reads as count-reads
-use Rattle.io.proofs.large_buffer.Reads as large-buffer-reads
-use Rattle.libc.proofs.read.Reads as read-reads
-use Rattle.protocol.proofs.start.Reads as start-reads
 
 abbrev Inv-loop : tie.InvT-loop
 Inv-loop input output block₀ out₀ day₀ turns₀ block out day turns = (length block ≡ 65536) × (length out ≡ 262144)

@@ -1,10 +1,8 @@
--- `answer::chunks_before` meets its contract: a clock line tells its count, another line none.
+-- `protocol::answer::chunks_before` meets its contract.
 use borrow.Author.Needs.{needs}
 use borrow.Author.Tests.{eq-eqb, ne-eqb}
 use Rattle.protocol.proofs.answer.chunks_before.Statement.{statement}
 use Rattle.protocol.proofs.answer.chunks_before.Tie as tie
-use Rattle.protocol.proofs.answer.chunks_before.Reads as reads
-use Rattle.protocol.proofs.answer.chunks_before.Lts as lts
 
 array-read-result : tie.Need-array-read-result
 array-read-result c = search needs

@@ -1,11 +1,8 @@
--- `answer::line_of` meets its contract: case by case.
+-- `protocol::answer::line_of` meets its contract.
 use borrow.Author.Needs.{needs}
 use Rattle.protocol.specs.Lines.{lineWith, no-number}
 use Rattle.protocol.proofs.answer.line_of.Statement.{statement}
 use Rattle.protocol.proofs.answer.line_of.Tie as tie
-use Rattle.protocol.proofs.answer.line_of.Reads as reads
-use Rattle.protocol.proofs.answer.line_of.Lts as lts
-use Rattle.protocol.proofs.answer.number_of.Reads as number-of-reads
 
 enum-known-answer : tie.Need-enum-known-answer
 enum-known-answer c = search needs

@@ -1,4 +1,4 @@
--- `answer::put_answer` meets its contract: the line of an answer is its text.
+-- `protocol::answer::put_answer` meets its contract.
 use borrow.Author.Needs.{needs}
 use mathlib.Core.Path.{_≡_, ap, subst, _∙_}
 use mathlib.Core.List.{List}
@@ -8,14 +8,9 @@ use Rattle.protocol.specs.Model.{answerText}
 use Rattle.protocol.specs.Writing.{Wrote}
 use Prim.Native.Nat.{ℕ, _≤_}
 use native.Mathlib.Omega.{arith}
-use Rattle.printing.specs.declared.Line.{Line}
 use Rattle.protocol.specs.Lines.{line-text, line-count, textOf}
 use Rattle.protocol.proofs.answer.put_answer.Statement.{statement}
 use Rattle.protocol.proofs.answer.put_answer.Tie as tie
-use Rattle.protocol.proofs.answer.put_answer.Reads as reads
-use Rattle.protocol.proofs.answer.put_answer.Lts as lts
-use Rattle.printing.proofs.put.Reads as put-reads
-use Rattle.protocol.proofs.answer.line_of.Reads as line-of-reads
 
 line-of-requires : tie.Need-line-of-requires
 line-of-requires c κs = search needs

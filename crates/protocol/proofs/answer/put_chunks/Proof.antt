@@ -1,20 +1,15 @@
--- `answer::put_chunks` meets its contract: the lines written so far are those of the chunks passed.
+-- `protocol::answer::put_chunks` meets its contract.
 use borrow.Author.Needs.{needs}
-use mathlib.Core.Path.{_≡_, refl, ap, subst, sym, _∙_}
-use mathlib.Core.List.{List, _++_}
+use mathlib.Core.Path.{_≡_, refl, subst}
 use Prim.Native.Nat.{ℕ, _+_, _-_, _*_, _≤_}
 use native.Mathlib.Omega.{arith}
 use denote.Ref.{now}
-use lib.ListN.{length, take, getD}
-use Rattle.protocol.specs.Model.{chunkTexts, chunkText}
+use lib.ListN.{length, take}
+use Rattle.protocol.specs.Model.{chunkTexts}
 use Rattle.protocol.specs.Lines.{chunk-next}
-use Rattle.protocol.specs.Writing.{Wrote, wrote-none, wrote-join, wrote-length}
+use Rattle.protocol.specs.Writing.{Wrote, wrote-none, wrote-length}
 use Rattle.protocol.proofs.answer.put_chunks.Statement.{statement}
 use Rattle.protocol.proofs.answer.put_chunks.Tie as tie
-use Rattle.protocol.proofs.answer.put_chunks.Reads as reads
-use Rattle.protocol.proofs.answer.put_chunks.Lts as lts
-use Rattle.printing.proofs.put.Reads as put-reads
-use Rattle.protocol.proofs.answer.chunk_line.Reads as chunk-line-reads
 
 abbrev Inv-loop : tie.InvT-loop
 Inv-loop out₀ at count chunks i₀ place₀ out i place =

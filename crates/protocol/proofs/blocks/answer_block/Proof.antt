@@ -1,7 +1,7 @@
--- `blocks::answer_block` meets its contract: the bytes passed have been fed, and the text so far stands at the front.
+-- `protocol::blocks::answer_block` meets its contract.
 use borrow.Author.Needs.{needs}
 use mathlib.Core.Path.{_≡_, refl, ap, sym, subst, _∙_}
-use Prim.Native.Nat.{_+_, _-_, _≤_, _<_}
+use Prim.Native.Nat.{_+_, _-_, _<_}
 use native.Mathlib.Omega.{arith}
 use lib.ListN.{length}
 use Rattle.protocol.specs.Model.{ended, unread}
@@ -10,14 +10,6 @@ use Rattle.protocol.specs.Stepping.{row-none, account-keeps}
 use Rattle.protocol.specs.Blocks.{Going, going-start, going-took, going-rest, going-line}
 use Rattle.protocol.proofs.blocks.answer_block.Statement.{statement}
 use Rattle.protocol.proofs.blocks.answer_block.Tie as tie
-use Rattle.protocol.proofs.blocks.answer_block.Reads as reads
-use Rattle.protocol.proofs.blocks.answer_block.Lts as lts
-use Rattle.protocol.proofs.answer.put_unread.Reads as put-unread-reads
-use Rattle.protocol.proofs.kept.row_of.Reads as row-of-reads
-use Rattle.protocol.proofs.kept.with_bytes.Reads as with-bytes-reads
-use Rattle.protocol.proofs.step.answer_row.Reads as answer-row-reads
-use Rattle.protocol.proofs.step.put_account.Reads as put-account-reads
-use Rattle.reading.proofs.find.Reads as find-reads
 
 abbrev Inv-loop : tie.InvT-loop
 Inv-loop block from out₀ last farm₀ rest₀ next₀ at₀ out farm rest next at =

@@ -1,6 +1,6 @@
--- `blocks::end_of_input` meets its contract: what is pending is a line if it is not empty.
+-- `protocol::blocks::end_of_input` meets its contract.
 use borrow.Author.Needs.{needs}
-use mathlib.Core.Path.{_≡_, sym, subst}
+use mathlib.Core.Path.{sym, subst}
 use mathlib.Core.List.{List}
 use Prim.Native.Nat.{ℕ, _≤_}
 use native.Mathlib.Omega.{arith}
@@ -10,9 +10,6 @@ use Rattle.protocol.specs.Blocks.{end-small, end-empty, end-line, end-to
 use Rattle.protocol.proofs.Sizes.{rest-length}
 use Rattle.protocol.proofs.blocks.end_of_input.Statement.{statement}
 use Rattle.protocol.proofs.blocks.end_of_input.Tie as tie
-use Rattle.protocol.proofs.blocks.end_of_input.Reads as reads
-use Rattle.protocol.proofs.blocks.end_of_input.Lts as lts
-use Rattle.protocol.proofs.blocks.answer_block.Reads as answer-block-reads
 
 returns : tie.Need-returns
 returns c =

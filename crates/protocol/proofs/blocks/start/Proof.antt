@@ -1,12 +1,9 @@
--- `blocks::start` meets its contract: the unopened farm, and nothing of a line.
+-- `protocol::blocks::start` meets its contract.
 use borrow.Author.Needs.{needs}
 use mathlib.Core.Path.{refl}
 use Rattle.planner.specs.Calls.{openFarm}
 use Rattle.protocol.proofs.blocks.start.Statement.{statement}
 use Rattle.protocol.proofs.blocks.start.Tie as tie
-use Rattle.protocol.proofs.blocks.start.Reads as reads
-use Rattle.protocol.proofs.blocks.start.Lts as lts
-use Rattle.planner.proofs.Farm.open.Reads as open-reads
 
 slice-aggregate-open : tie.Need-slice-aggregate-open
 slice-aggregate-open c = search needs

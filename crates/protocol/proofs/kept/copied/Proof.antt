@@ -1,6 +1,6 @@
--- `kept::copied` meets its contract: the bytes passed have been copied.
+-- `protocol::kept::copied` meets its contract.
 use borrow.Author.Needs.{needs}
-use mathlib.Core.Path.{_≡_, refl, ap, subst, sym, _∙_}
+use mathlib.Core.Path.{_≡_, ap, sym, _∙_}
 use mathlib.Core.List.{List}
 use Prim.Native.Nat.{ℕ, _+_, _-_, _≤_, _<_}
 use native.Mathlib.Numerals.{add-one}
@@ -9,8 +9,6 @@ use lib.ListN.{length, drop, set, getD, length-set, length-drop}
 use lib.Seq.{paste, paste-zero, paste-suc, getD-drop}
 use Rattle.protocol.proofs.kept.copied.Statement.{statement}
 use Rattle.protocol.proofs.kept.copied.Tie as tie
-use Rattle.protocol.proofs.kept.copied.Reads as reads
-use Rattle.protocol.proofs.kept.copied.Lts as lts
 
 abbrev Inv-loop : tie.InvT-loop
 Inv-loop at block from count out₀ i₀ out i = (i ≤ count) × (out ≡ paste out₀ at (drop from block) i) × (length out ≡ 1024)

@@ -1,6 +1,6 @@
--- `kept::row_of` meets its contract: the record of the kept line.
+-- `protocol::kept::row_of` meets its contract.
 use borrow.Author.Needs.{needs}
-use mathlib.Core.Path.{_≡_, refl, ap, sym, _∙_}
+use mathlib.Core.Path.{_≡_}
 use Prim.Native.Nat.{_-_}
 use lib.ListN.{take}
 use Rattle.reading.specs.Model.{rowOf}
@@ -9,9 +9,6 @@ use borrow.Author.Tests.{le-leb, lt-leb}
 use Rattle.protocol.proofs.Sizes.{bytes-length}
 use Rattle.protocol.proofs.kept.row_of.Statement.{statement}
 use Rattle.protocol.proofs.kept.row_of.Tie as tie
-use Rattle.protocol.proofs.kept.row_of.Reads as reads
-use Rattle.protocol.proofs.kept.row_of.Lts as lts
-use Rattle.reading.proofs.read.Reads as read-reads
 
 returns : tie.Need-returns
 returns c = rw (lt-leb _ _ (c .if1 .taken))

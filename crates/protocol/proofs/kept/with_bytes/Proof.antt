@@ -1,6 +1,6 @@
--- `kept::with_bytes` meets its contract: the kept bytes with those of the block.
+-- `protocol::kept::with_bytes` meets its contract.
 use borrow.Author.Needs.{needs}
-use Prim.Native.Nat.{_-_, _≤_}
+use Prim.Native.Nat.{_-_}
 use native.Mathlib.Omega.{arith}
 use lib.ListN.{drop, length-drop}
 use lib.Seq.{length-take-le}
@@ -9,9 +9,6 @@ use Rattle.protocol.specs.Keeping.{rest-long, rest-over, rest-fits}
 use Rattle.protocol.proofs.Sizes.{bytes-length}
 use Rattle.protocol.proofs.kept.with_bytes.Statement.{statement}
 use Rattle.protocol.proofs.kept.with_bytes.Tie as tie
-use Rattle.protocol.proofs.kept.with_bytes.Reads as reads
-use Rattle.protocol.proofs.kept.with_bytes.Lts as lts
-use Rattle.protocol.proofs.kept.copied.Reads as copied-reads
 
 sub-count : tie.Need-sub-count
 sub-count c = search needs

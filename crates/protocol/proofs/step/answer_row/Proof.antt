@@ -1,8 +1,7 @@
--- `step::answer_row` meets its contract: one return a kind.
+-- `protocol::step::answer_row` meets its contract.
 use borrow.Author.Needs.{needs}
-use mathlib.Core.Path.{_≡_, refl}
+use mathlib.Core.Path.{refl}
 use lib.ListN.{getD}
-use native.Mathlib.Omega.{arith}
 use Rattle.planner.specs.Calls.{openSaid, offerSaid}
 use Rattle.protocol.specs.Model.{jobLine, costsIn}
 use Rattle.protocol.specs.Rows.{farmRow, allowancesIn}
@@ -10,13 +9,6 @@ use Rattle.protocol.specs.Writing.{steps-as}
 use Rattle.protocol.specs.Stepping.{row-job, row-clock, row-late, row-open, row-early, steps-said, steps-unread}
 use Rattle.protocol.proofs.step.answer_row.Statement.{statement}
 use Rattle.protocol.proofs.step.answer_row.Tie as tie
-use Rattle.protocol.proofs.step.answer_row.Reads as reads
-use Rattle.protocol.proofs.step.answer_row.Lts as lts
-use Rattle.planner.proofs.Farm.offer.Reads as offer-reads
-use Rattle.protocol.proofs.answer.put_answer.Reads as put-answer-reads
-use Rattle.protocol.proofs.answer.put_unread.Reads as put-unread-reads
-use Rattle.protocol.proofs.step.clock_step.Reads as clock-step-reads
-use Rattle.protocol.proofs.step.opening.Reads as opening-reads
 
 array-read-clock-step : tie.Need-array-read-clock-step
 array-read-clock-step c = search needs

@@ -1,20 +1,13 @@
--- `step::clock_step` meets its contract: the chunk lines, then the clock line.
+-- `protocol::step::clock_step` meets its contract.
 use borrow.Author.Needs.{needs}
 use mathlib.Core.Path.{_≡_, refl}
 use Prim.Native.Nat.{_+_, _*_, _≤_}
 use native.Mathlib.Omega.{arith}
-use lib.ListN.{length, replicate, length-replicate}
+use lib.ListN.{length}
 use Rattle.protocol.specs.Lines.{line-count}
 use Rattle.protocol.specs.Stepping.{clock-few, clock-steps}
 use Rattle.protocol.proofs.step.clock_step.Statement.{statement}
 use Rattle.protocol.proofs.step.clock_step.Tie as tie
-use Rattle.protocol.proofs.step.clock_step.Reads as reads
-use Rattle.protocol.proofs.step.clock_step.Lts as lts
-use Rattle.planner.proofs.Farm.clock_by_value.Reads as clock-by-value-reads
-use Rattle.printing.proofs.put.Reads as put-reads
-use Rattle.protocol.proofs.answer.chunks_before.Reads as chunks-before-reads
-use Rattle.protocol.proofs.answer.line_of.Reads as line-of-reads
-use Rattle.protocol.proofs.answer.put_chunks.Reads as put-chunks-reads
 
 clock-by-value-requires : tie.Need-clock-by-value-requires
 clock-by-value-requires c κs = search needs

@@ -1,12 +1,9 @@
--- `step::opening` meets its contract: the numbers of a farm line in their order.
+-- `protocol::step::opening` meets its contract.
 use borrow.Author.Needs.{needs}
 use native.Mathlib.Omega.{arith}
 use Rattle.protocol.proofs.Sizes.{numbers-length}
 use Rattle.protocol.proofs.step.opening.Statement.{statement}
 use Rattle.protocol.proofs.step.opening.Tie as tie
-use Rattle.protocol.proofs.step.opening.Reads as reads
-use Rattle.protocol.proofs.step.opening.Lts as lts
-use Rattle.planner.proofs.Farm.open.Reads as open-reads
 
 array-read-open : tie.Need-array-read-open
 array-read-open c = search needs
