@@ -1,5 +1,6 @@
 // Days that come through a file descriptor: read in blocks, answered by the crate protocol, and the answers written. A failed read or
 // write ends a day quietly.
+ghost use Rattle.feeding.specs.Fed.{Answers};
 use protocol::Session;
 
 // A day so far, and whether its answers could be written.
@@ -9,7 +10,9 @@ pub struct Sent {
 }
 
 // Answers a block. The answers are written at its end, and before it where `out` is full.
-fn answer_all(output: i32, session: Session, block: &[u8], out: &mut [u8]) -> Sent {
+fn answer_all(output: i32, session: Session, block: &[u8], out: &mut [u8]) -> Sent
+    ensures { λ r. ⌜ Answers session (now (block .entry)) r ⌝ }
+{
     let mut day = session;
     let mut next = 0;
     let mut turns = u64::MAX;
