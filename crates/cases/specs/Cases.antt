@@ -67,7 +67,7 @@ Right r = run r ≡ r .expected
 
 -- m, p, ST, SC
 abbrev pub costsOf : ℕ → ℕ → ℕ → ℕ → Costs
-costsOf m p st sc = record { send = m; compute = p; link = st; node = sc }
+costsOf m p st sc = record { send = m; compute = p; linksetup = st; nodesetup = sc }
 
 -- one offer to a new farm of one show: all nodes and the link free, start 0, so that the window is the deadline
 abbrev pub alone : ℕ → Costs → ℕ → ℕ → Outcome → Row

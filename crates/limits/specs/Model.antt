@@ -23,7 +23,7 @@ allAtLeast a (x ∷ xs) = leb a x && allAtLeast a xs
 
 -- whether the costs are within the table
 unfoldable pub costsWithin : Costs → Bool
-costsWithin c = between 1 (c .send) 10_000 && between 1 (c .compute) 1_000_000 && leb (c .link) 1_000_000 && leb (c .node) 1_000_000
+costsWithin c = between 1 (c .send) 10_000 && between 1 (c .compute) 1_000_000 && leb (c .linksetup) 1_000_000 && leb (c .nodesetup) 1_000_000
 
 -- ---- What they say
 
@@ -35,5 +35,5 @@ Between a x b = (a ≤ x) × (x ≤ b)
 pub record CostsWithin (c : Costs) : Type 0 where
   pub send : Between 1 (c .send) 10_000
   pub compute : Between 1 (c .compute) 1_000_000
-  pub link : c .link ≤ 1_000_000
-  pub node : c .node ≤ 1_000_000
+  pub linksetup : c .linksetup ≤ 1_000_000
+  pub nodesetup : c .nodesetup ≤ 1_000_000

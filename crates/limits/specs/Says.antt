@@ -74,5 +74,5 @@ says-at-least a (x ∷ xs) = says-both (says-le a x) (says-at-least a xs)
 pub says-costs : (c : Costs) → Says (costsWithin c) (CostsWithin c)
 unfolding costsWithin
 says-costs c =
-    says-as (λ h. record { send = h .0 .0 .0; compute = h .0 .0 .1; link = h .0 .1; node = h .1 }) (λ h. (((h .send, h .compute), h .link), h .node))
-    (says-both (says-both (says-both (says-between 1 (c .send) 10_000) (says-between 1 (c .compute) 1_000_000)) (says-le (c .link) 1_000_000)) (says-le (c .node) 1_000_000))
+    says-as (λ h. record { send = h .0 .0 .0; compute = h .0 .0 .1; linksetup = h .0 .1; nodesetup = h .1 }) (λ h. (((h .send, h .compute), h .linksetup), h .nodesetup))
+    (says-both (says-both (says-both (says-between 1 (c .send) 10_000) (says-between 1 (c .compute) 1_000_000)) (says-le (c .linksetup) 1_000_000)) (says-le (c .nodesetup) 1_000_000))

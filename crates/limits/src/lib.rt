@@ -2,18 +2,11 @@
 // What each test means is in specs/Model.antt.
 ghost use mathlib.Core.Bool.{_&&_};
 ghost use mathlib.Core.Path.{_≡_};
-ghost use Prim.Native.Nat.{min};
 ghost use lib.Dec.{leb};
 ghost use lib.ListN.{take};
 ghost use Rattle.limits.specs.Model.{between, allAtMost, costsWithin};
+use numbers::least;
 use shares::Costs;
-
-// The tests are of 64-bit numbers; a count is widened first.
-pub fn wide(x: usize) -> u64
-    ensures { λ r. ⌜ r ≡ x ⌝ }
-{
-    x as u64
-}
 
 pub fn and(a: bool, b: bool) -> bool
     ensures { λ r. ⌜ r ≡ (a && b) ⌝ }
@@ -34,15 +27,6 @@ pub fn between(low: u64, x: u64, high: u64) -> bool
     ensures { λ r. ⌜ r ≡ between low x high ⌝ }
 {
     and(at_most(low, x), at_most(x, high))
-}
-
-pub fn least(a: usize, b: usize) -> usize
-    ensures { λ r. ⌜ r ≡ min a b ⌝ }
-{
-    if a < b {
-        return a;
-    }
-    b
 }
 
 // Whether the first `count` numbers are at most `limit`; a count above the length is taken for the length.
@@ -69,7 +53,7 @@ pub fn costs_within(costs: Costs) -> bool
         between(1, costs.compute, 1_000_000),
     );
     and(
-        and(units, at_most(costs.link, 1_000_000)),
-        at_most(costs.node, 1_000_000),
+        and(units, at_most(costs.linksetup, 1_000_000)),
+        at_most(costs.nodesetup, 1_000_000),
     )
 }

@@ -64,6 +64,10 @@ moveFarm f t n = cond (eqb (moveAsked f t n) 0) (movedFarm f t) f
 unfoldable pub moveMemory : Farm → ℕ → List Chunk → List Chunk
 moveMemory f t m = cond (eqb (moveAsked f t (length m)) 0) (issued f t ++ drop (length (issued f t)) m) m
 
+-- the lines that it writes: none where it is refused
+abbrev pub moveLines : Farm → ℕ → ℕ → List Chunk
+moveLines f t n = cond (eqb (moveAsked f t n) 0) (issued f t) []
+
 -- ---- Showing the timetable
 
 -- the lines of every waiting booking, in order of start
@@ -81,3 +85,7 @@ shownSaid f n = cond (eqb (shownAsked f n) 0) (granted (length (shown f) ∷ [])
 -- the lent memory after it
 unfoldable pub shownMemory : Farm → List Chunk → List Chunk
 shownMemory f m = cond (eqb (shownAsked f (length m)) 0) (shown f ++ drop (length (shown f)) m) m
+
+-- the lines that it writes
+abbrev pub shownLines : Farm → ℕ → List Chunk
+shownLines f n = cond (eqb (shownAsked f n) 0) (shown f) []

@@ -3,7 +3,7 @@
 --    that the one before it handed back,"                                             demand3, over `run` (Lists.antt)
 --   "no accepted job is late."                                                        each, due
 --   "Its chunks are issued, each once, all by the first granted clock move after its acceptance to reach the start it
---    has at that move,"                                                               stories (`Fate` in Lists.antt)
+--    has at that move,"                                                               stories (`Lifecycle` in Lists.antt)
 --   "and no others are ever issued."                                                  only
 --   "They add up to its size, end by its deadline,"                                   each (`Fulfils` in Lists.antt)
 --   "and have been issued once the clock has reached that deadline."                  due
@@ -42,17 +42,17 @@ use Rattle.planner.specs.Calls.{Said, granted, refused, showsWithin, ope
 use Rattle.planner.specs.Kept.{waiting-planned}
 use Rattle.planner.specs.Clock.{begun, issued, moveAsked}
 use Rattle.planner.specs.Starts.{StartsDiffer, starts-differ, next-few, next-granted}
-use Rattle.planner.specs.Lists.{Call, offer, move, handed, isGranted, linesBy, Accepted, jobsBy, World, opening, note, run, heldOf, upTo, linesFor, latestFinish, latestSent, acceptedOf, Fulfils, FromFirst, Waits, Silent, Fate}
+use Rattle.planner.specs.Lists.{Call, offer, move, handed, isGranted, linesBy, Accepted, jobsBy, History, opening, note, run, heldOf, upTo, linesFor, latestFinish, latestSent, acceptedOf, Fulfils, FromFirst, Waits, IssuesNone, Lifecycle}
 use Rattle.planner.specs.Seam.{chunkOf, numberOfJob}
 use Rattle.planner.specs.MoveKept.{Waiting, waiting-jobs, booked-chain}
 use Rattle.planner.specs.Outcome.{taken, Takes, Moves, outcome}
 use Rattle.planner.specs.Invariant.{idle, Whole, Inv, plan-accepted, whole-proper, open-inv, note-inv, run-inv}
-use Rattle.planner.specs.Stories.{spans-named, none-of-jobs, lines-none, lines-own, whole-fulfils, spans-first, waits-as, Gone, gone-silent, begun-gone, front-differ, none-before, Among, story}
+use Rattle.planner.specs.Stories.{spans-named, none-of-jobs, lines-none, lines-own, whole-fulfils, spans-first, waits-as, NoLongerWaits, issues-no-more, begun-no-longer-waits, front-differ, none-before, Among, story}
 
 -- ---- The claim
 
 -- A job accepted as x has been issued: the issued chunks of its number are those of one booking, each once, that do what was accepted.
-pub record Issued (x : Accepted) (w : World) : Type 0 where
+pub record Issued (x : Accepted) (w : History) : Type 0 where
   pub job : Job
   pub same : acceptedOf job ≡ x
   pub lines : linesFor (x .number) (w .lines) ≡ spansOf (w .farm .costs) job
@@ -62,14 +62,14 @@ pub record Issued (x : Accepted) (w : World) : Type 0 where
 
 -- A job accepted as x waits: none of its chunks has been issued, those booked do what was accepted, as the latest walk that replaced the plan gave
 -- them, and the clock has not reached its deadline.
-pub record Booked (x : Accepted) (w : World) : Type 0 where
+pub record Booked (x : Accepted) (w : History) : Type 0 where
   pub waits : Waits x (w .farm)
   pub lines : linesFor (x .number) (w .lines) ≡ []
   pub latest : List·Memᴰ (waits .job) (w .latest)
   pub early : w .farm .clock < x .deadline
 
 -- The walk of an offer that was accepted after v: what it knew, and that it gave each job the best of all choices behind those before it (demand 2).
-pub record Walked (v : World) (s z d : ℕ) : Type 0 where
+pub record Walked (v : History) (s z d : ℕ) : Type 0 where
   -- its plan replaced the old one
   pub plans : note v (offer s z d) .latest ≡ plan (termsOf (v .farm)) (busyOf (v .farm)) (byDeadline (waitingOf (v .farm) ++ newJob (v .farm) s z d ∷ []))
   pub best : BestAll (termsOf (v .farm)) (busyOf (v .farm)) (byDeadline (waitingOf (v .farm) ++ newJob (v .farm) s z d ∷ []))
@@ -83,19 +83,19 @@ abbrev pub Split : List Call → List Call → Call → List Call → Type 0
 Split cs before c after = cs ≡ before ++ c ∷ after
 
 -- demand 3 of the calls cs after an opening that handed the farm f back, w what is noted after them
-pub record Demand3 (f : Farm) (cs : List Call) (w : World) : Type 0 where
+pub record Demand3 (f : Farm) (cs : List Call) (w : History) : Type 0 where
   -- No accepted job is late: its chunks, issued or where the list ends before that booked, add up to its size and end by its deadline.
   pub each : All (λ (x : Accepted). Issued x w ⊎ Booked x w) (w .jobs)
   -- They have been issued once the clock has reached its deadline.
   pub due : All (λ (x : Accepted). x .deadline ≤ w .farm .clock → Issued x w) (w .jobs)
   -- They are issued, each once, all by the first granted clock move after its acceptance to reach the start it has at that move.
   pub stories : (before : List Call) (c : Call) (after : List Call) → Split cs before c after
-      → All (λ (x : Accepted). Fate x (handed (run (opening f) before .farm) c) after) (jobsBy (run (opening f) before .farm) c)
+      → All (λ (x : Accepted). Lifecycle x (handed (run (opening f) before .farm) c) after) (jobsBy (run (opening f) before .farm) c)
   -- No others are ever issued.
   pub only : All (λ (y : Span). List·Memᴰ (y .chunk .job) (map (λ (x : Accepted). x .number) (w .jobs))) (w .lines)
   -- No later call alters an issued chunk: none issues a chunk of its job.
   pub unaltered : (before : List Call) (c : Call) (after : List Call) → Split cs before c after
-      → All (λ (y : Span). Silent (y .chunk .job) (handed (run (opening f) before .farm) c) after) (linesBy (run (opening f) before .farm) c)
+      → All (λ (y : Span). IssuesNone (y .chunk .job) (handed (run (opening f) before .farm) c) after) (linesBy (run (opening f) before .farm) c)
   -- No two chunks, issued or booked, share a tick of a node or of the link.
   pub apart : Pairs Apart (w .lines ++ spansOfAll (w .farm .costs) (waitingOf (w .farm)))
   -- Each show's held ticks equal the sum over its issued chunks.
@@ -174,7 +174,7 @@ finish-after c t (a ∷ xs) m h p = omega (arith, mul-le-mul-right (c .send) (p 
 
 -- ---- From the invariant
 
-module _ (w : World) (i : Inv w) where
+module _ (w : History) (i : Inv w) where
   all-differ : Differ (map numberOfJob (i .past ++ waitingOf (w .farm)))
   all-differ =
       let d : Differ (map (λ (x : Accepted). x .number) (w .jobs)) = subst Differ (sym (i .numbers)) (up-to-differ (w .farm .used)) in
@@ -273,7 +273,7 @@ new-among f (offer s y d) z = ⊎-elim (λ r. subst (All (λ (x : Accepted). Amo
         subst (All (λ (x : Accepted). Among x (handed f (offer s y d)))) (sym (k .jobs)) (subst (Among (taken f s y d)) (sym (k .hands)) three, tt)
 
 -- The walk of an accepted offer.
-offer-walked : (w : World) (s z d : ℕ) → Inv w → isGranted (w .farm) (offer s z d) ≡ true → Walked w s z d
+offer-walked : (w : History) (s z d : ℕ) → Inv w → isGranted (w .farm) (offer s z d) ≡ true → Walked w s z d
 offer-walked w s z d i e = ⊎-elim (λ r. absurd (false≢true (sym (r .says) ∙ e))) takes (outcome (w .farm) (offer s z d) (i .sized))
   where
     takes : Takes (w .farm) s z d → Walked w s z d
@@ -291,19 +291,19 @@ offer-walked w s z d i e = ⊎-elim (λ r. absurd (false≢true (sym (r .says) �
         }
 
 -- No call after it issues a chunk of a job that a call has issued.
-issued-silent : (w : World) (c : Call) (cs : List Call) → Inv w → All (λ (y : Span). Silent (y .chunk .job) (handed (w .farm) c) cs) (linesBy (w .farm) c)
-issued-silent w (offer s y d) cs i = tt
-issued-silent w (move t m) cs i = ⊎-elim (λ r. subst (All P) (sym (r .lines)) tt) moves (outcome (w .farm) (move t m) (i .sized))
+issued-issues-none : (w : History) (c : Call) (cs : List Call) → Inv w → All (λ (y : Span). IssuesNone (y .chunk .job) (handed (w .farm) c) cs) (linesBy (w .farm) c)
+issued-issues-none w (offer s y d) cs i = tt
+issued-issues-none w (move t m) cs i = ⊎-elim (λ r. subst (All P) (sym (r .lines)) tt) moves (outcome (w .farm) (move t m) (i .sized))
   where
     P : Span → Type 0
-    P y = Silent (y .chunk .job) (handed (w .farm) (move t m)) cs
+    P y = IssuesNone (y .chunk .job) (handed (w .farm) (move t m)) cs
 
     moves : Moves (w .farm) t m → All P (linesBy (w .farm) (move t m))
     moves k =
         let f = w .farm in
         subst (All P) (sym (k .lines)) (spans-all P (f .costs) (begun f t) (all-of (begun f t) (λ j h.
-        all-map (λ y e. subst (λ (n : ℕ). Silent n (handed f (move t m)) cs) (sym e)
-        (gone-silent (j .number) (note w (move t m)) cs (note-inv w (move t m) i) (subst (Gone (j .number)) (sym (k .hands)) (begun-gone f t j (i .sized) (i .passes) h))))
+        all-map (λ y e. subst (λ (n : ℕ). IssuesNone n (handed f (move t m)) cs) (sym e)
+        (issues-no-more (j .number) (note w (move t m)) cs (note-inv w (move t m) i) (subst (NoLongerWaits (j .number)) (sym (k .hands)) (begun-no-longer-waits f t j (i .sized) (i .passes) h))))
         (spansOf (f .costs) j) (spans-named (f .costs) j))))
 
 -- ---- The theorem
@@ -334,7 +334,7 @@ demand3 n c al e cs =
           let j : Inv (run (opening f) before) = run-inv (opening f) before o in
           all-map (λ y m. story y (note v x) after (note-inv v x j) m) (jobsBy (v .farm) x) (new-among (v .farm) x (j .sized));
       only = only-jobs w i;
-      unaltered = λ before x after h. issued-silent (run (opening f) before) x after (run-inv (opening f) before o);
+      unaltered = λ before x after h. issued-issues-none (run (opening f) before) x after (run-inv (opening f) before o);
       apart = all-apart w i;
       held = λ s h. i .held s (h .0, omega (arith, h .1, passes-iff (w .farm) (i .sized) .0 (i .passes) .within .shows .1));
       free = node-free w i;

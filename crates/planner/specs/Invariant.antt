@@ -26,7 +26,7 @@ use Rattle.planner.specs.Sound.{Paired, passes-iff}
 use Rattle.planner.specs.Calls.{openedWith, showsWithin, openFarm, heldBy, newJob, queueOf, planned, withPlan}
 use Rattle.planner.specs.Kept.{all-replicate, opens-with, open-sized, open-passes, waiting-planned, accepted-sized, accepted-passes}
 use Rattle.planner.specs.Clock.{begun, left, issued, movedFarm}
-use Rattle.planner.specs.Lists.{Call, offer, move, Accepted, World, opening, note, run, heldOf, upTo, acceptedOf}
+use Rattle.planner.specs.Lists.{Call, offer, move, Accepted, History, opening, note, run, heldOf, upTo, acceptedOf}
 use Rattle.timetable.specs.Begin.{afters-append}
 use Rattle.planner.specs.Seam.{begun-left, spans-append, chunkOf, spans-chunks, afters-within, sum-within, held-part, held-append, held-free, raised-held}
 use Rattle.planner.specs.MoveKept.{Waiting, moved-chain, begun-jobs, moved-waiting, moved-sized, moved-passes}
@@ -49,7 +49,7 @@ pub record Whole (c : Costs) (shows : ℕ) (j : Job) : Type 0 where
   pub proper : All (Proper 64) (spansOf c j)
 
 -- what holds after every list of calls
-pub record Inv (w : World) : Type 0 where
+pub record Inv (w : History) : Type 0 where
   -- the jobs begun, in order
   pub past : List Job
   pub sized : Sized (w .farm)
@@ -106,7 +106,7 @@ open-inv n c al e =
 
 -- ---- A world by its parts
 
-abbrev worldOf : Farm → List Span → List Accepted → List Job → ℕ → World
+abbrev worldOf : Farm → List Span → List Accepted → List Job → ℕ → History
 worldOf f l j p t = record { farm = f; lines = l; jobs = j; latest = p; time = t }
 
 -- Worlds with the same parts are the same.
@@ -116,7 +116,7 @@ same-world a b c d e = rw (a, b, c, d, e)
 -- ---- A refused call
 
 -- A refused call changes nothing.
-pub refused-note : (w : World) (c : Call) → Refused (w .farm) c → note w c ≡ w
+pub refused-note : (w : History) (c : Call) → Refused (w .farm) c → note w c ≡ w
 refused-note w c r =
     same-world (r .hands) (ap (λ (l : List Span). w .lines ++ l) (r .lines) ∙ append-nil (w .lines)) (ap (λ (l : List Accepted). w .jobs ++ l) (r .jobs) ∙ append-nil (w .jobs))
     (r .latest (w .latest)) (r .time (w .time))
@@ -129,8 +129,8 @@ unfolding plan
 plan-accepted w b [] = refl
 plan-accepted w b (j ∷ js) = ap (λ (l : List Accepted). acceptedOf j ∷ l) (plan-accepted w (busyAfter w b j) js)
 
-module _ (w : World) (s z d : ℕ) where
-  abbrev offered : World
+module _ (w : History) (s z d : ℕ) where
+  abbrev offered : History
   offered = worldOf (withPlan (w .farm) (planned (w .farm) s z d)) (w .lines) (w .jobs ++ taken (w .farm) s z d ∷ []) (planned (w .farm) s z d) (w .time)
 
   takes-note : Takes (w .farm) s z d → note w (offer s z d) ≡ offered
@@ -216,8 +216,8 @@ held-limit c n s js h k =
 
 -- ---- A granted clock move
 
-module _ (w : World) (t : ℕ) (m : List Chunk) where
-  abbrev moved : World
+module _ (w : History) (t : ℕ) (m : List Chunk) where
+  abbrev moved : History
   moved = worldOf (movedFarm (w .farm) t) (w .lines ++ spansOfAll (w .farm .costs) (begun (w .farm) t)) (w .jobs) (w .latest) t
 
   moves-note : Moves (w .farm) t m → note w (move t m) ≡ moved
@@ -316,18 +316,18 @@ module _ (w : World) (t : ℕ) (m : List Chunk) where
 -- ---- Every list
 
 -- A call keeps the invariant.
-pub note-inv : (w : World) (c : Call) → Inv w → Inv (note w c)
+pub note-inv : (w : History) (c : Call) → Inv w → Inv (note w c)
 note-inv w (offer s z d) i = ⊎-elim (λ r. subst Inv (sym (refused-note w (offer s z d) r)) i) (λ k. subst Inv (sym (takes-note w s z d k)) (takes-inv w s z d i k)) (outcome (w .farm) (offer s z d) (i .sized))
 note-inv w (move t m) i = ⊎-elim (λ r. subst Inv (sym (refused-note w (move t m) r)) i) (λ k. subst Inv (sym (moves-note w t m k)) (moves-inv w t m i k)) (outcome (w .farm) (move t m) (i .sized))
 
 -- So does every list of calls.
-pub run-inv : (w : World) (cs : List Call) → Inv w → Inv (run w cs)
+pub run-inv : (w : History) (cs : List Call) → Inv w → Inv (run w cs)
 unfolding run
 run-inv w [] i = i
 run-inv w (c ∷ cs) i = run-inv (note w c) cs (note-inv w c i)
 
 -- A list of calls in two parts is run the one part after the other.
-pub run-append : (w : World) (xs ys : List Call) → run w (xs ++ ys) ≡ run (run w xs) ys
+pub run-append : (w : History) (xs ys : List Call) → run w (xs ++ ys) ≡ run (run w xs) ys
 unfolding run
 run-append w [] ys = refl
 run-append w (c ∷ xs) ys = run-append (note w c) xs ys

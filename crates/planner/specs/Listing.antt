@@ -12,12 +12,12 @@ use Rattle.planner.specs.Model.{chunksFrom, spansOfAll, afters, fitAll, 
 use Rattle.planner.specs.Passes.{figuresWithin, jobWithin, jobKept, jobsPass, noneOf, allDiffer, passesOf}
 use Rattle.planner.specs.Calls.{heldBy, openSaid, openFarm, ofNumber, offerAsked, offerSaid, offerFarm}
 use Rattle.planner.specs.Clock.{keep, linesOfAll, raised, moveAsked, moveSaid, moveFarm, moveMemory}
-use Rattle.planner.specs.Lists.{Call, offer, move, World, opening, run}
+use Rattle.planner.specs.Lists.{Call, offer, move, History, opening, run}
 use Rattle.planner.specs.Seam.{chunkOf}
 
 -- m = 1, p = 2, no setups
 abbrev pub listed : Costs
-listed = record { send = 1; compute = 2; link = 0; node = 0 }
+listed = record { send = 1; compute = 2; linksetup = 0; nodesetup = 0 }
 
 -- a line by its seven fields
 abbrev pub chunk : ℕ → ℕ → ℕ → ℕ → ℕ → ℕ → ℕ → Chunk
@@ -28,11 +28,11 @@ abbrev pub listedCalls : List Call
 listedCalls = offer 1 10 18 ∷ offer 2 3 20 ∷ offer 2 2 12 ∷ move 10 (replicate 4 (chunk 0 0 0 0 0 0 0)) ∷ []
 
 -- what is noted after them
-abbrev pub afterListing : World
+abbrev pub afterListing : History
 afterListing = run (opening (openFarm 3 listed (30 ∷ 0 ∷ []))) listedCalls
 
 -- what the paper prints: the chunk lines, the clock, the two accounts' held ticks, and the two jobs accepted
-pub record Printed (w : World) : Type 0 where
+pub record Printed (w : History) : Type 0 where
   pub chunks : map chunkOf (w .lines) ≡ chunk 1 1 1 6 0 6 18 ∷ chunk 1 1 2 4 6 10 18 ∷ chunk 2 2 3 3 10 13 19 ∷ []
   pub clock : w .farm .clock ≡ 10
   pub held : (heldBy (w .farm) 1 ≡ 36) × (heldBy (w .farm) 2 ≡ 9)

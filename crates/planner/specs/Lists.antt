@@ -69,7 +69,7 @@ timeBy f u (move t m) = cond (isGranted f (move t m)) t u
 -- ---- A list of calls
 
 -- the farm, and what was noted: every chunk issued, every job accepted, the latest plan, and the time of the last granted move
-pub record World : Type 0 where
+pub record History : Type 0 where
   pub farm : Farm
   pub lines : List Span
   pub jobs : List Accepted
@@ -77,11 +77,11 @@ pub record World : Type 0 where
   pub time : ℕ
 
 -- after an opening that handed this farm back
-abbrev pub opening : Farm → World
+abbrev pub opening : Farm → History
 opening f = record { farm = f; lines = []; jobs = []; latest = []; time = 0 }
 
 -- after one call more
-abbrev pub note : World → Call → World
+abbrev pub note : History → Call → History
 note w c = record {
   farm = handed (w .farm) c;
   lines = w .lines ++ linesBy (w .farm) c;
@@ -91,7 +91,7 @@ note w c = record {
 }
 
 -- after a list of calls
-unfoldable pub run : World → List Call → World
+unfoldable pub run : History → List Call → History
 run w [] = w
 run w (c ∷ cs) = run (note w c) cs
 
@@ -162,17 +162,17 @@ abbrev pub NoneOf : ℕ → List Span → Type 0
 NoneOf n xs = All (λ (y : Span). y .chunk .job ≡ n → ⊥) xs
 
 -- none of these calls issues a chunk of job n
-abbrev pub Silent : ℕ → Farm → List Call → Type 0
-Silent n f [] = Unit
-Silent n f (c ∷ cs) = NoneOf n (linesBy f c) × Silent n (handed f c) cs
+abbrev pub IssuesNone : ℕ → Farm → List Call → Type 0
+IssuesNone n f [] = Unit
+IssuesNone n f (c ∷ cs) = NoneOf n (linesBy f c) × IssuesNone n (handed f c) cs
 
 -- what becomes of a job accepted as x over the calls that follow
-pub data Fate (x : Accepted) : Farm → List Call → Type 0 where
+pub data Lifecycle (x : Accepted) : Farm → List Call → Type 0 where
   -- it waits where the list ends
-  waits : {f : Farm} → Waits x f → Fate x f []
+  waits : {f : Farm} → Waits x f → Lifecycle x f []
   -- it waits, and the call is no granted clock move that reaches the start it has then, and issues no chunk of it
-  passes : {f : Farm} {c : Call} {cs : List Call} (h : Waits x f) → (Reaches f c (h .job .booking .start) → ⊥) → NoneOf (x .number) (linesBy f c) → Fate x (handed f c) cs
-      → Fate x f (c ∷ cs)
+  passes : {f : Farm} {c : Call} {cs : List Call} (h : Waits x f) → (Reaches f c (h .job .booking .start) → ⊥) → NoneOf (x .number) (linesBy f c) → Lifecycle x (handed f c) cs
+      → Lifecycle x f (c ∷ cs)
   -- it waits, and the call is a granted clock move that reaches the start it has then: all its chunks are issued, each once, and none later
   begins : {f : Farm} {c : Call} {cs : List Call} (h : Waits x f) → Reaches f c (h .job .booking .start) → linesFor (x .number) (linesBy f c) ≡ spansOf (f .costs) (h .job)
-      → Silent (x .number) (handed f c) cs → Fate x f (c ∷ cs)
+      → IssuesNone (x .number) (handed f c) cs → Lifecycle x f (c ∷ cs)

@@ -26,7 +26,7 @@ use Rattle.planner.specs.Model.{greatest, between, spansOfAll, afters, b
 use Rattle.planner.specs.Passes.{passesOf}
 use Rattle.planner.specs.Sound.{passes-iff}
 use Rattle.planner.specs.Calls.{numberOf, granted, Replies}
-use Rattle.planner.specs.Clock.{keep, startsBy, startsAfter, linesOfAll, raised, begun, left, issued, movedFarm, moveAsked, moveSaid, moveFarm, moveMemory, shown, shownAsked, shownSaid, shownMemory}
+use Rattle.planner.specs.Clock.{keep, startsBy, startsAfter, linesOfAll, raised, begun, left, issued, movedFarm, moveAsked, moveSaid, moveFarm, moveMemory, moveLines, shown, shownAsked, shownSaid, shownMemory, shownLines}
 use Rattle.planner.specs.Seam.{keep-all, keep-none, keep-every}
 use Rattle.planner.specs.MoveKept.{move-granted, move-asked, Waiting, waiting-jobs}
 
@@ -70,7 +70,7 @@ waiting-sends f j n h = record {
 }
 
 -- what the jobs of a list bring where they begin: chunks that can be worked out, shows with a cell, cells with room
-pub record Able (f : Farm) (j : Job) : Type 0 where
+pub record CanBegin (f : Farm) (j : Job) : Type 0 where
   pub sends : Sends (f .costs) j
   pub show : (1 ≤ j .show) × (j .show ≤ 32)
   pub room : getD (f .held) (j .show - 1) 0 ≤ 64_000_000_000_000
@@ -79,8 +79,8 @@ module _ (f : Farm) (sized : Sized f) (e : passesOf f ≡ true) where
   pub waiting-few : f .waiting ≤ 128
   waiting-few = passes-iff f sized .0 e .within .waiting
 
-  waiting-able : All (Able f) (waitingOf f)
-  waiting-able =
+  waiting-can-begin : All (CanBegin f) (waitingOf f)
+  waiting-can-begin =
       let w = passes-iff f sized .0 e .within in
       let room : (j : Job) → Waiting f j → getD (f .held) (j .show - 1) 0 ≤ 64_000_000_000_000 =
       λ j h.
@@ -93,11 +93,11 @@ module _ (f : Farm) (sized : Sized f) (e : passesOf f ≡ true) where
         room = room j h;
       }) (waitingOf f) (waiting-jobs f sized e)
 
-  pub by-start-able : All (Able f) (byStart (waitingOf f))
-  by-start-able = perm-all (Able f) (by-start-perm (waitingOf f)) waiting-able
+  pub by-start-can-begin : All (CanBegin f) (byStart (waitingOf f))
+  by-start-can-begin = perm-all (CanBegin f) (by-start-perm (waitingOf f)) waiting-can-begin
 
-  pub begun-able : (t : ℕ) → All (Able f) (begun f t)
-  begun-able t = all-map (λ j h. h .0) (begun f t) (keep-all (startsBy t) (Able f) (byStart (waitingOf f)) by-start-able)
+  pub begun-can-begin : (t : ℕ) → All (CanBegin f) (begun f t)
+  begun-can-begin t = all-map (λ j h. h .0) (begun f t) (keep-all (startsBy t) (CanBegin f) (byStart (waitingOf f)) by-start-can-begin)
 
 -- ---- A clock move, worked out
 
@@ -106,7 +106,7 @@ pub record Begins (f : Farm) (ordered : List Job) (n t : ℕ) : Type 0 where
   pub few : n ≤ 128
   pub waiting : f .waiting ≤ 128
   pub jobs : take n ordered ≡ begun f t
-  pub able : All (Able f) (take n ordered)
+  pub ready : All (CanBegin f) (take n ordered)
 
 -- What starts by t, at the front of the waiting jobs in order of start, begins.
 pub begins-of : (f : Farm) (sized : Sized f) (e : passesOf f ≡ true) (ordered : List Job) → ordered ≡ byStart (waitingOf f) ++ drop (f .waiting) (f .jobs)
@@ -114,29 +114,29 @@ pub begins-of : (f : Farm) (sized : Sized f) (e : passesOf f ≡ true) (ordered 
 begins-of f sized e ordered o t k q h =
     let w = waiting-few f sized e in
     let j = ordered-begun f ordered sized w o t k q h in
-    record { few = omega (arith, w, h); waiting = w; jobs = j; able = subst (All (Able f)) (sym j) (begun-able f sized e t) }
+    record { few = omega (arith, w, h); waiting = w; jobs = j; ready = subst (All (CanBegin f)) (sym j) (begun-can-begin f sized e t) }
 
-able-sends : (f : Farm) (js : List Job) → All (Able f) js → All (Sends (f .costs)) js
-able-sends f js h = all-map (λ j a. a .sends) js h
+can-begin-sends : (f : Farm) (js : List Job) → All (CanBegin f) js → All (Sends (f .costs)) js
+can-begin-sends f js h = all-map (λ j a. a .sends) js h
 
-pub able-few : (f : Farm) (js : List Job) → All (Able f) js → All Few js
-able-few f js h = all-map (λ j a. a .sends .few) js h
+pub can-begin-few : (f : Farm) (js : List Job) → All (CanBegin f) js → All Few js
+can-begin-few f js h = all-map (λ j a. a .sends .few) js h
 
 -- What the functions that it calls ask for.
 module _ {f : Farm} {ordered : List Job} {n t : ℕ} (x : Begins f ordered n t) where
   pub begins-few : (n ≤ 128) × All Few (take n ordered)
-  begins-few = (x .few, able-few f (take n ordered) (x .able))
+  begins-few = (x .few, can-begin-few f (take n ordered) (x .ready))
 
   pub begins-sends : (n ≤ 128) × All (Sends (f .costs)) (take n ordered)
-  begins-sends = (x .few, able-sends f (take n ordered) (x .able))
+  begins-sends = (x .few, can-begin-sends f (take n ordered) (x .ready))
 
   pub begins-raises : (n ≤ 128) × RaisesAll (f .costs) (f .held) (take n ordered)
   begins-raises = (
     x .few,
     record {
-      sends = able-sends f (take n ordered) (x .able);
-      shows = all-map (λ j a. a .show) (take n ordered) (x .able);
-      room = all-map (λ j a. a .room) (take n ordered) (x .able);
+      sends = can-begin-sends f (take n ordered) (x .ready);
+      shows = all-map (λ j a. a .show) (take n ordered) (x .ready);
+      room = all-map (λ j a. a .room) (take n ordered) (x .ready);
     },
   )
 
@@ -168,10 +168,6 @@ none-due : (c : Costs) (n : ℕ) (f : Farm) (q : Question) → Due c [] n (stopp
 unfolding linesOfAll
 none-due c n f q = record { few = omega arith; sends = tt; lines = refl; fits = omega arith }
 
--- the lines that a move writes: none where it is refused
-abbrev pub moveLines : Farm → ℕ → ℕ → List Chunk
-moveLines f t n = cond (eqb (moveAsked f t n) 0) (issued f t) []
-
 pub record MoveIssues (f : Farm) (t n : ℕ) (r : Issue) : Type 0 where
   pub replies : Replies (r .reply) (moveSaid f t n) (moveFarm f t n)
   pub due : Due (f .costs) (moveLines f t n) n r
@@ -188,7 +184,7 @@ move-stops f t n m q r e a b =
 
 -- The lines of what begins are as many as its chunks.
 pub begun-lines : (f : Farm) (ordered : List Job) (k t : ℕ) → Begins f ordered k t → length (issued f t) ≡ chunks (take k ordered)
-begun-lines f ordered k t x = ap (λ (js : List Job). length (linesOfAll (f .costs) js)) (sym (x .jobs)) ∙ all-lines (f .costs) (take k ordered) (able-sends f (take k ordered) (x .able))
+begun-lines f ordered k t x = ap (λ (js : List Job). length (linesOfAll (f .costs) js)) (sym (x .jobs)) ∙ all-lines (f .costs) (take k ordered) (can-begin-sends f (take k ordered) (x .ready))
 
 -- A move that is granted writes the lines of what begins.
 pub move-goes : (f : Farm) (t n : ℕ) (ordered : List Job) (k lines : ℕ) (next : Farm) → Begins f ordered k t → moveAsked f t n ≡ 0 → lines ≡ chunks (take k ordered) → next ≡ movedFarm f t
@@ -200,7 +196,7 @@ move-goes f t n ordered k lines next x a e m =
       replies = record { says = rw z (ap (λ (i : ℕ). granted (t ∷ i ∷ [])) (e ∙ sym (begun-lines f ordered k t x))); hands = rw z m };
       due = record {
         few = x .few;
-        sends = able-sends f (take k ordered) (x .able);
+        sends = can-begin-sends f (take k ordered) (x .ready);
         lines = ap (linesOfAll (f .costs)) (x .jobs) ∙ sym (ap (λ (b : Bool). cond b (issued f t) []) z);
         fits = subst (λ (l : List Chunk). length l ≤ n) (sym (ap (λ (b : Bool). cond b (issued f t) []) z)) (move-granted f t n a .lines);
       };
@@ -287,9 +283,6 @@ module _ (c : Costs) (ls : List Chunk) (n : ℕ) (r : Issue) (x : Due c ls n r) 
 
 -- ---- Showing, worked out
 
-abbrev pub shownLines : Farm → ℕ → List Chunk
-shownLines f n = cond (eqb (shownAsked f n) 0) (shown f) []
-
 pub record ShowIssues (f : Farm) (n : ℕ) (r : Issue) : Type 0 where
   pub replies : Replies (r .reply) (shownSaid f n) f
   pub due : Due (f .costs) (shownLines f n) n r
@@ -304,10 +297,10 @@ show-stops f n m q r e a b =
     })
 
 -- The lines that are shown are as many as the waiting bookings' chunks.
-pub shown-lines : (f : Farm) (ordered : List Job) → take (f .waiting) ordered ≡ byStart (waitingOf f) → All (Able f) (take (f .waiting) ordered)
+pub shown-lines : (f : Farm) (ordered : List Job) → take (f .waiting) ordered ≡ byStart (waitingOf f) → All (CanBegin f) (take (f .waiting) ordered)
     → length (shown f) ≡ chunks (take (f .waiting) ordered)
 shown-lines f ordered o h =
-    ap (λ (js : List Job). length (linesOfAll (f .costs) js)) (sym o) ∙ all-lines (f .costs) (take (f .waiting) ordered) (able-sends f (take (f .waiting) ordered) h)
+    ap (λ (js : List Job). length (linesOfAll (f .costs) js)) (sym o) ∙ all-lines (f .costs) (take (f .waiting) ordered) (can-begin-sends f (take (f .waiting) ordered) h)
 
 shown-fits : (f : Farm) (n : ℕ) → shownAsked f n ≡ 0 → length (shown f) ≤ n
 unfolding shownAsked
@@ -319,7 +312,7 @@ shown-fits f n a = go (passesOf f) (leb (length (shown f)) n) refl a
     go false b e h = absurd (omega arith)
 
 -- Showing that is granted writes the lines of every waiting booking.
-pub show-goes : (f : Farm) (n : ℕ) (ordered : List Job) (lines : ℕ) → f .waiting ≤ 128 → take (f .waiting) ordered ≡ byStart (waitingOf f) → All (Able f) (take (f .waiting) ordered)
+pub show-goes : (f : Farm) (n : ℕ) (ordered : List Job) (lines : ℕ) → f .waiting ≤ 128 → take (f .waiting) ordered ≡ byStart (waitingOf f) → All (CanBegin f) (take (f .waiting) ordered)
     → shownAsked f n ≡ 0 → lines ≡ chunks (take (f .waiting) ordered)
     → ShowIssues f n (record { count = f .waiting; jobs = ordered; reply = record { answer = answer.Shown lines; farm = f } })
 unfolding shownSaid
@@ -329,7 +322,7 @@ show-goes f n ordered lines w o h a e =
       replies = record { says = rw z (ap (λ (i : ℕ). granted (i ∷ [])) (e ∙ sym (shown-lines f ordered o h))); hands = refl };
       due = record {
         few = w;
-        sends = able-sends f (take (f .waiting) ordered) h;
+        sends = can-begin-sends f (take (f .waiting) ordered) h;
         lines = ap (linesOfAll (f .costs)) o ∙ sym (ap (λ (b : Bool). cond b (shown f) []) z);
         fits = subst (λ (x : List Chunk). length x ≤ n) (sym (ap (λ (b : Bool). cond b (shown f) []) z)) (shown-fits f n a);
       };

@@ -26,7 +26,7 @@ use Rattle.soundness.specs.Sweep.{spans-all}
 use Rattle.planner.specs.Calls.{newJob, queueOf, planned, withPlan}
 use Rattle.planner.specs.Kept.{waiting-planned}
 use Rattle.planner.specs.Clock.{startsBy, startsAfter, begun, left, movedFarm}
-use Rattle.planner.specs.Lists.{Call, offer, move, handed, linesBy, Accepted, World, note, linesFor, unitsIn, acceptedOf, Fulfils, FromFirst, Waits, NoneOf, Silent, Fate, waits, passes, begins}
+use Rattle.planner.specs.Lists.{Call, offer, move, handed, linesBy, Accepted, History, note, linesFor, unitsIn, acceptedOf, Fulfils, FromFirst, Waits, NoneOf, IssuesNone, Lifecycle, waits, passes, begins}
 use Rattle.planner.specs.Seam.{keep-all, begun-left, numberOfJob}
 use Rattle.planner.specs.MoveKept.{Waiting, waiting-jobs, waiting-differ, begun-jobs, moved-waiting}
 use Rattle.planner.specs.Outcome.{Refused, Takes, Moves, outcome, chunks-named}
@@ -148,7 +148,7 @@ waits-as f j x z e m q = record {
 }
 
 -- A job of this number has begun: its number is among those used, and no waiting job has it.
-pub record Gone (n : ℕ) (f : Farm) : Type 0 where
+pub record NoLongerWaits (n : ℕ) (f : Farm) : Type 0 where
   pub used : n ≤ f .used
   pub none : All (λ (j : Job). j .number ≡ n → ⊥) (waitingOf f)
 
@@ -181,8 +181,8 @@ module _ (xs ys : List Job) (d : Differ (map numberOfJob (xs ++ ys))) where
 -- ---- A job that has begun
 
 module _ (n : ℕ) (f : Farm) (z : Sized f) (e : passesOf f ≡ true) where
-  gone-takes : (s y d : ℕ) → Gone n f → Takes f s y d → Gone n (withPlan f (planned f s y d))
-  gone-takes s y d g k =
+  no-longer-takes : (s y d : ℕ) → NoLongerWaits n f → Takes f s y d → NoLongerWaits n (withPlan f (planned f s y d))
+  no-longer-takes s y d g k =
       let P : ℕ → Type 0 = λ (a : ℕ). a ≡ n → ⊥ in
       let queue : All (λ (j : Job). j .number ≡ n → ⊥) (queueOf f s y d) =
       perm-all (λ (j : Job). j .number ≡ n → ⊥) (by-deadline-perm (waitingOf f ++ newJob f s y d ∷ []))
@@ -194,31 +194,31 @@ module _ (n : ℕ) (f : Farm) (z : Sized f) (e : passesOf f ≡ true) where
         none = subst (All (λ (j : Job). j .number ≡ n → ⊥)) (sym (waiting-planned f s y d z (k .granted) (k .books))) all;
       }
 
-  gone-moves : (t : ℕ) (m : List Chunk) → Gone n f → Moves f t m → NoneOf n (linesBy f (move t m)) × Gone n (handed f (move t m))
-  gone-moves t m g k =
+  no-longer-moves : (t : ℕ) (m : List Chunk) → NoLongerWaits n f → Moves f t m → NoneOf n (linesBy f (move t m)) × NoLongerWaits n (handed f (move t m))
+  no-longer-moves t m g k =
       let P : Job → Type 0 = λ (j : Job). j .number ≡ n → ⊥ in
       let both = all-append P (begun f t) (left f t) (perm-all P (begun-left f t) (g .none)) in (
         subst (NoneOf n) (sym (k .lines)) (none-of-jobs (f .costs) n (begun f t) (both .0)),
-        subst (Gone n) (sym (k .hands)) (record { used = g .used; none = subst (All P) (sym (moved-waiting f z e t)) (both .1) }),
+        subst (NoLongerWaits n) (sym (k .hands)) (record { used = g .used; none = subst (All P) (sym (moved-waiting f z e t)) (both .1) }),
       )
 
   -- A call issues no chunk of a job that has begun before it, and the job has begun after it too.
-  gone-stays : (c : Call) → Gone n f → NoneOf n (linesBy f c) × Gone n (handed f c)
-  gone-stays (offer s y d) g =
-      (tt, ⊎-elim (λ r. subst (Gone n) (sym (r .hands)) g) (λ k. subst (Gone n) (sym (k .hands)) (gone-takes s y d g k)) (outcome f (offer s y d) z))
-  gone-stays (move t m) g =
-      ⊎-elim (λ r. (subst (NoneOf n) (sym (r .lines)) tt, subst (Gone n) (sym (r .hands)) g)) (λ k. gone-moves t m g k) (outcome f (move t m) z)
+  no-longer-stays : (c : Call) → NoLongerWaits n f → NoneOf n (linesBy f c) × NoLongerWaits n (handed f c)
+  no-longer-stays (offer s y d) g =
+      (tt, ⊎-elim (λ r. subst (NoLongerWaits n) (sym (r .hands)) g) (λ k. subst (NoLongerWaits n) (sym (k .hands)) (no-longer-takes s y d g k)) (outcome f (offer s y d) z))
+  no-longer-stays (move t m) g =
+      ⊎-elim (λ r. (subst (NoneOf n) (sym (r .lines)) tt, subst (NoLongerWaits n) (sym (r .hands)) g)) (λ k. no-longer-moves t m g k) (outcome f (move t m) z)
 
 -- No call after it issues a chunk of a job that has begun.
-pub gone-silent : (n : ℕ) (w : World) (cs : List Call) → Inv w → Gone n (w .farm) → Silent n (w .farm) cs
-gone-silent n w [] i g = tt
-gone-silent n w (c ∷ cs) i g =
-    let r = gone-stays n (w .farm) (i .sized) (i .passes) c g in
-    (r .0, gone-silent n (note w c) cs (note-inv w c i) (r .1))
+pub issues-no-more : (n : ℕ) (w : History) (cs : List Call) → Inv w → NoLongerWaits n (w .farm) → IssuesNone n (w .farm) cs
+issues-no-more n w [] i g = tt
+issues-no-more n w (c ∷ cs) i g =
+    let r = no-longer-stays n (w .farm) (i .sized) (i .passes) c g in
+    (r .0, issues-no-more n (note w c) cs (note-inv w c i) (r .1))
 
 -- A job that begins by a move has begun after it.
-pub begun-gone : (f : Farm) (t : ℕ) (j : Job) → Sized f → passesOf f ≡ true → List·Memᴰ j (begun f t) → Gone (j .number) (movedFarm f t)
-begun-gone f t j z e m = record {
+pub begun-no-longer-waits : (f : Farm) (t : ℕ) (j : Job) → Sized f → passesOf f ≡ true → List·Memᴰ j (begun f t) → NoLongerWaits (j .number) (movedFarm f t)
+begun-no-longer-waits f t j z e m = record {
   used = at-member (λ (i : Job). Waiting f i × (startsBy t i ≡ true)) m (begun-jobs f z e t) .0 .within .number .1;
   none = subst (All (λ (i : Job). i .number ≡ j .number → ⊥)) (sym (moved-waiting f z e t)) (none-behind (begun f t) (left f t) (begun-differ f t z e) j m);
 }
@@ -247,7 +247,7 @@ among-offer x f s y d z m =
     ⊎-elim (λ r. subst (Among x) (sym (r .hands)) m) (λ k. subst (Among x) (sym (k .hands)) (among-takes x f s y d z k m)) (outcome f (offer s y d) z)
 
 -- the job begins by this move
-story-begins : (x : Accepted) (w : World) (t : ℕ) (ms : List Chunk) (cs : List Call) → Inv w → Moves (w .farm) t ms → List·Memᴰ x (map acceptedOf (begun (w .farm) t)) → Fate x (w .farm) (move t ms ∷ cs)
+story-begins : (x : Accepted) (w : History) (t : ℕ) (ms : List Chunk) (cs : List Call) → Inv w → Moves (w .farm) t ms → List·Memᴰ x (map acceptedOf (begun (w .farm) t)) → Lifecycle x (w .farm) (move t ms ∷ cs)
 story-begins x w t ms cs i k m =
     let f = w .farm in
     let r = from-image acceptedOf (begun f t) m in
@@ -258,12 +258,12 @@ story-begins x w t ms cs i k m =
     let own = lines-own (f .costs) (begun f t) j (front-differ (begun f t) (left f t) (begun-differ f t (i .sized) (i .passes))) (r .among) in
     begins {c = move t ms} (waits-as f j x (i .sized) (i .passes) in′ (r .image)) (k .says, leb-true (j .booking .start) t by)
     (ap (linesFor (x .number)) (k .lines) ∙ ap (λ (a : ℕ). linesFor a (spansOfAll (f .costs) (begun f t))) (sym n) ∙ own)
-    (gone-silent (x .number) (note w (move t ms)) cs (note-inv w (move t ms) i)
-    (subst (λ (a : ℕ). Gone a (handed f (move t ms))) n (subst (Gone (j .number)) (sym (k .hands)) (begun-gone f t j (i .sized) (i .passes) (r .among)))))
+    (issues-no-more (x .number) (note w (move t ms)) cs (note-inv w (move t ms) i)
+    (subst (λ (a : ℕ). NoLongerWaits a (handed f (move t ms))) n (subst (NoLongerWaits (j .number)) (sym (k .hands)) (begun-no-longer-waits f t j (i .sized) (i .passes) (r .among)))))
 
 -- the job waits on over this move
-story-passes : (x : Accepted) (w : World) (t : ℕ) (ms : List Chunk) (cs : List Call) → Inv w → Moves (w .farm) t ms → List·Memᴰ x (map acceptedOf (left (w .farm) t))
-    → (Among x (handed (w .farm) (move t ms)) → Fate x (handed (w .farm) (move t ms)) cs) → Fate x (w .farm) (move t ms ∷ cs)
+story-passes : (x : Accepted) (w : History) (t : ℕ) (ms : List Chunk) (cs : List Call) → Inv w → Moves (w .farm) t ms → List·Memᴰ x (map acceptedOf (left (w .farm) t))
+    → (Among x (handed (w .farm) (move t ms)) → Lifecycle x (handed (w .farm) (move t ms)) cs) → Lifecycle x (w .farm) (move t ms ∷ cs)
 story-passes x w t ms cs i k m rest =
     let f = w .farm in
     let r = from-image acceptedOf (left f t) m in
@@ -278,14 +278,14 @@ story-passes x w t ms cs i k m rest =
     (rest (subst (Among x) (sym (k .hands)) (subst (λ (l : List Job). List·Memᴰ x (map acceptedOf l)) (sym (moved-waiting f (i .sized) (i .passes) t)) m)))
 
 -- Each job that waits is issued by the first granted clock move to reach the start it has then, and never again.
-pub story : (x : Accepted) (w : World) (cs : List Call) → Inv w → Among x (w .farm) → Fate x (w .farm) cs
+pub story : (x : Accepted) (w : History) (cs : List Call) → Inv w → Among x (w .farm) → Lifecycle x (w .farm) cs
 story x w [] i m = waits (among-waits x (w .farm) (i .sized) (i .passes) m)
 story x w (offer s y d ∷ cs) i m =
     passes {c = offer s y d} (among-waits x (w .farm) (i .sized) (i .passes) m) (λ q. q) tt
     (story x (note w (offer s y d)) cs (note-inv w (offer s y d) i) (among-offer x (w .farm) s y d (i .sized) m))
 story x w (move t ms ∷ cs) i m = go (λ h. story x (note w (move t ms)) cs (note-inv w (move t ms) i) h) (outcome (w .farm) (move t ms) (i .sized))
   where
-    go : (Among x (handed (w .farm) (move t ms)) → Fate x (handed (w .farm) (move t ms)) cs) → Refused (w .farm) (move t ms) ⊎ Moves (w .farm) t ms → Fate x (w .farm) (move t ms ∷ cs)
+    go : (Among x (handed (w .farm) (move t ms)) → Lifecycle x (handed (w .farm) (move t ms)) cs) → Refused (w .farm) (move t ms) ⊎ Moves (w .farm) t ms → Lifecycle x (w .farm) (move t ms ∷ cs)
     go rest (inl r) =
         passes {c = move t ms} (among-waits x (w .farm) (i .sized) (i .passes) m) (λ q. false≢true (sym (r .says) ∙ q .0)) (subst (NoneOf (x .number)) (sym (r .lines)) tt) (rest (subst (Among x) (sym (r .hands)) m))
     go rest (inr k) =

@@ -61,8 +61,8 @@ fn unopened_farm() -> Farm
         costs: Costs {
             send: 0,
             compute: 0,
-            link: 0,
-            node: 0,
+            linksetup: 0,
+            nodesetup: 0,
         },
         shows: 0,
         allowances: [0; 32],
@@ -232,8 +232,8 @@ fn finish_of(costs: Costs, job: Job) -> u64
     let mut i = 0;
     while i < count {
         let share = wide32(shares[i]);
-        let sent = time + (costs.link + share * costs.send);
-        latest = later(latest, sent + (costs.node + share * costs.compute));
+        let sent = time + (costs.linksetup + share * costs.send);
+        latest = later(latest, sent + (costs.nodesetup + share * costs.compute));
         time = sent;
         i += 1;
     }

@@ -9,7 +9,7 @@ use limits::and;
 use limits::at_most;
 use limits::between;
 use limits::costs_within;
-use limits::wide;
+use numbers::wide;
 use soundness::Figures;
 use soundness::all_differ;
 use soundness::in_turn;

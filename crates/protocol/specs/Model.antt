@@ -63,7 +63,7 @@ unread f = record { farm = f; text = refusal 11 }
 
 -- `farm` nodes m p ST SC, then one allowance a show
 abbrev pub costsIn : List ℕ → Costs
-costsIn ns = record { send = getD ns 1 0; compute = getD ns 2 0; link = getD ns 3 0; node = getD ns 4 0 }
+costsIn ns = record { send = getD ns 1 0; compute = getD ns 2 0; linksetup = getD ns 3 0; nodesetup = getD ns 4 0 }
 
 unfoldable pub farmLine : List ℕ → Answered
 farmLine ns = record {

@@ -25,8 +25,8 @@ pub fn start() -> Session
     let costs = Costs {
         send: 0,
         compute: 0,
-        link: 0,
-        node: 0,
+        linksetup: 0,
+        nodesetup: 0,
     };
     let none = [0u64; 1];
     let reply = Farm::open(0, costs, &none);

@@ -29,8 +29,8 @@ fn opening(row: Row) -> Reply
     let costs = Costs {
         send: numbers[1],
         compute: numbers[2],
-        link: numbers[3],
-        node: numbers[4],
+        linksetup: numbers[3],
+        nodesetup: numbers[4],
     };
     Farm::open(numbers[0], costs, &numbers[5..count])
 }

@@ -15,7 +15,7 @@ use Rattle.shares.specs.Model.{first, left, leftAfter, capacity}
 unfoldable pub byBranch : Costs → ℕ → ℕ → ℕ
 byBranch c zero w = 0
 byBranch c (suc n) w =
-    cond (leb (c .link + c .node + (c .send + c .compute)) w)
+    cond (leb (c .linksetup + c .nodesetup + (c .send + c .compute)) w)
     (first c w + byBranch c n (left c w (first c w)))
     0
 
@@ -27,20 +27,20 @@ shorter′ : (w v f e d m l : ℕ) → w ≤ v + d * m → w - (l + f * m) ≤ v
 shorter′ w v f e d m l h = omega arith
 
 -- Where not even 1 unit fits, the first share is 0.
-pub first-none : (c : Costs) (w : ℕ) → w - (c .link + c .node) < c .send + c .compute → first c w ≡ 0
+pub first-none : (c : Costs) (w : ℕ) → w - (c .linksetup + c .nodesetup) < c .send + c .compute → first c w ≡ 0
 unfolding first
 first-none c w h = div-eq-of-lt h
 
 -- Nor is there a share where a unit costs nothing.
 pub first-free : (c : Costs) (w : ℕ) → c .send + c .compute ≡ 0 → first c w ≡ 0
 unfolding first
-first-free c w h = rw h (div-zero (w - (c .link + c .node)))
+first-free c w h = rw h (div-zero (w - (c .linksetup + c .nodesetup)))
 
 -- What a first share takes on the link is within the window, or it is one setup alone.
-pub first-used : (c : Costs) (w : ℕ) → first c w * c .send ≤ w - (c .link + c .node)
+pub first-used : (c : Costs) (w : ℕ) → first c w * c .send ≤ w - (c .linksetup + c .nodesetup)
 unfolding first
 first-used c w =
-    let x = w - (c .link + c .node) in
+    let x = w - (c .linksetup + c .nodesetup) in
     let e = c .send + c .compute in
     omega (arith, div-mul-le-self x e, mul-le-mul-left (x / e) (le-add-right (c .send) (c .compute)))
 
@@ -64,18 +64,18 @@ capacity-snoc c k w = rw add-one (go k w)
 
 module _ (c : Costs) (sends : 1 ≤ c .send) where
   -- A share that fits the window is at most the first share.
-  pub first-most : (w a : ℕ) → c .link + c .node + a * (c .send + c .compute) ≤ w → a ≤ first c w
+  pub first-most : (w a : ℕ) → c .linksetup + c .nodesetup + a * (c .send + c .compute) ≤ w → a ≤ first c w
   unfolding first
   first-most w a h =
       let pos : 0 < c .send + c .compute = omega arith in
-      let fits : a * (c .send + c .compute) ≤ w - (c .link + c .node) = omega arith in
+      let fits : a * (c .send + c .compute) ≤ w - (c .linksetup + c .nodesetup) = omega arith in
       le-div-iff-mul-le pos .1 fits
 
   -- The first share fits the window.
-  pub first-fits : (w : ℕ) → 1 ≤ first c w → c .link + c .node + first c w * (c .send + c .compute) ≤ w
+  pub first-fits : (w : ℕ) → 1 ≤ first c w → c .linksetup + c .nodesetup + first c w * (c .send + c .compute) ≤ w
   unfolding first
   first-fits w h =
-      let x = w - (c .link + c .node) in
+      let x = w - (c .linksetup + c .nodesetup) in
       let e = c .send + c .compute in
       omega (arith, div-mul-le-self x e, mul-le-mul-right e h)
 
@@ -85,7 +85,7 @@ module _ (c : Costs) (sends : 1 ≤ c .send) where
     where
       go : d + 1 ≤ e → ⊥
       go k =
-          let f : c .link + c .node + first c w * (c .send + c .compute) ≤ w = first-fits w (omega arith) in
+          let f : c .linksetup + c .nodesetup + first c w * (c .send + c .compute) ≤ w = first-fits w (omega arith) in
           let i : (first c v + 1 + d) * (c .send + c .compute) ≤ first c w * (c .send + c .compute) = mul-le-mul-right (c .send + c .compute) (omega arith) in
           let j : first c v + 1 ≤ first c v = first-most v (first c v + 1) (omega arith) in
           omega arith
@@ -103,15 +103,15 @@ module _ (c : Costs) (sends : 1 ≤ c .send) where
       g = first c v
 
       rest : ℕ → ℕ → ℕ
-      rest u a = capacity c n (u - (c .link + a * c .send))
+      rest u a = capacity c n (u - (c .linksetup + a * c .send))
 
       less : (e : ℕ) → g ≡ f + e → f + rest w f ≤ g + rest v g + d
-      less e q = rw q (omega (arith, ih _ _ (d + e) (shorter′ w v f e d (c .send) (c .link) h)))
+      less e q = rw q (omega (arith, ih _ _ (d + e) (shorter′ w v f e d (c .send) (c .linksetup) h)))
 
       more : (e : ℕ) → f ≡ g + e → f + rest w f ≤ g + rest v g + d
       more e q =
           let k : e ≤ d = first-slack w v d e h q in
-          rw q (omega (arith, ih _ _ (d - e) (shorter w v g e (d - e) (c .send) (c .link) (rw (add-sub-of-le k) h))))
+          rw q (omega (arith, ih _ _ (d - e) (shorter w v g e (d - e) (c .send) (c .linksetup) (rw (add-sub-of-le k) h))))
 
   -- d·m more ticks hold at most d more units.
   pub slack : (n w v d : ℕ) → w ≤ v + d * c .send → capacity c n w ≤ capacity c n v + d
@@ -150,8 +150,8 @@ module _ (c : Costs) (sends : 1 ≤ c .send) where
   none-fits zero w v e h = refl
   none-fits (suc n) w v e h =
       let z : first c v ≡ 0 = omega (arith, first-mono h) in
-      let s : v - (c .link + first c v * c .send) ≤ w = omega arith in
-      omega (arith, none-fits n w (v - (c .link + first c v * c .send)) e s)
+      let s : v - (c .linksetup + first c v * c .send) ≤ w = omega arith in
+      omega (arith, none-fits n w (v - (c .linksetup + first c v * c .send)) e s)
 
   left-shorter : (w a : ℕ) → left c w a ≤ w
   unfolding left
@@ -163,17 +163,17 @@ module _ (c : Costs) (sends : 1 ≤ c .send) where
   at-most-window n w = omega (arith, slack n w 0 w (omega (arith, mul-le-mul-left w sends)), none-fits n 0 0 none (omega arith))
     where
       none : first c 0 ≡ 0
-      none = omega (arith, div-le-self (0 - (c .link + c .node)) (c .send + c .compute))
+      none = omega (arith, div-le-self (0 - (c .linksetup + c .nodesetup)) (c .send + c .compute))
 
   -- In the paper's branch form the capacity is the same.
   pub branch-same : (n w : ℕ) → byBranch c n w ≡ capacity c n w
   unfolding byBranch capacity
   branch-same zero w = refl
-  branch-same (suc n) w = go (leb (c .link + c .node + (c .send + c .compute)) w) refl (branch-same n)
+  branch-same (suc n) w = go (leb (c .linksetup + c .nodesetup + (c .send + c .compute)) w) refl (branch-same n)
     where
-      go : (b : Bool) → leb (c .link + c .node + (c .send + c .compute)) w ≡ b → ((w : ℕ) → byBranch c n w ≡ capacity c n w)
+      go : (b : Bool) → leb (c .linksetup + c .nodesetup + (c .send + c .compute)) w ≡ b → ((w : ℕ) → byBranch c n w ≡ capacity c n w)
           → cond b (first c w + byBranch c n (left c w (first c w))) 0 ≡ first c w + capacity c n (left c w (first c w))
       go true e ih = ap (λ (x : ℕ). first c w + x) (ih (left c w (first c w)))
       go false e ih =
-          let none : first c w ≡ 0 = first-none c w (omega (arith, leb-false (c .link + c .node + (c .send + c .compute)) w e)) in
+          let none : first c w ≡ 0 = first-none c w (omega (arith, leb-false (c .linksetup + c .nodesetup + (c .send + c .compute)) w e)) in
           omega (arith, none-fits n w (left c w (first c w)) none (left-shorter w (first c w)))

@@ -17,7 +17,7 @@ finishes-length c t (a ∷ xs) = ap suc (finishes-length c (sendEnd c t a) xs)
 
 -- The finish of chunk j is j·ST + (a1 + … + aj)·m + SC + aj·p after the start (j counts from 1; the place in a list from 0).
 pub chunk-finish : (c : Costs) (t : ℕ) (xs : List ℕ) (i : ℕ) → i < length xs
-    → getD (finishes c t xs) i 0 ≡ t + (suc i * c .link + sum (take (suc i) xs) * c .send + c .node + getD xs i 0 * c .compute)
+    → getD (finishes c t xs) i 0 ≡ t + (suc i * c .linksetup + sum (take (suc i) xs) * c .send + c .nodesetup + getD xs i 0 * c .compute)
 unfolding finishes sum
 chunk-finish c t [] i h = absurd (omega arith)
 chunk-finish c t (a ∷ xs) zero h = omega arith

@@ -16,11 +16,11 @@ use Rattle.shares.specs.declared.Fewest.the-variants.{Nodes, None}
 
 -- when the send of `a` units that begins at t has ended: it takes ST + a × m
 abbrev pub sendEnd : Costs → ℕ → ℕ → ℕ
-sendEnd c t a = t + (c .link + a * c .send)
+sendEnd c t a = t + (c .linksetup + a * c .send)
 
 -- when its chunk has finished: computing follows the send and takes SC + a × p
 abbrev pub chunkFinish : Costs → ℕ → ℕ → ℕ
-chunkFinish c t a = sendEnd c t a + (c .node + a * c .compute)
+chunkFinish c t a = sendEnd c t a + (c .nodesetup + a * c .compute)
 
 -- the chunk finishes of a share list whose first send begins at t
 unfoldable pub finishes : Costs → ℕ → List ℕ → List ℕ
@@ -41,11 +41,11 @@ sum (a ∷ xs) = a + sum xs
 
 -- the largest a with ST + SC + a × (m + p) ≤ w; 0 where not even 1 fits
 unfoldable pub first : Costs → ℕ → ℕ
-first c w = (w - (c .link + c .node)) / (c .send + c .compute)
+first c w = (w - (c .linksetup + c .nodesetup)) / (c .send + c .compute)
 
 -- what a first share of `a` units leaves of the window: it is shorter by ST + a × m
 unfoldable pub left : Costs → ℕ → ℕ → ℕ
-left c w a = w - (c .link + a * c .send)
+left c w a = w - (c .linksetup + a * c .send)
 
 -- the window that is left once k nodes have taken their first shares
 unfoldable pub leftAfter : Costs → ℕ → ℕ → ℕ
@@ -92,9 +92,6 @@ answers c n = leb 1 (c .send) && leb n 64
 
 unfoldable pub nextOf : Costs → ℕ → Share
 nextOf c w = record { units = first c w; left = left c w (first c w) }
-
-unfoldable pub capacityOf : Costs → ℕ → ℕ → ℕ
-capacityOf c n w = cond (answers c n) (capacity c n w) 0
 
 unfoldable pub fewestOf : Costs → ℕ → ℕ → ℕ → Fewest
 fewestOf c n z w = cond (answers c n) (fewest c n z w) None

@@ -14,10 +14,10 @@ use Rattle.shares.specs.Capacity.{first-most, first-fits, slack, none-fi
 
 module _ (c : Costs) (sends : 1 ≤ c .send) where
   -- a first share of a, where f is the largest: the rest of the window lost is (f - a)·m at most
-  kept : (v a f : ℕ) → a ≤ f → v - (c .link + a * c .send) ≤ v - (c .link + f * c .send) + (f - a) * c .send
+  kept : (v a f : ℕ) → a ≤ f → v - (c .linksetup + a * c .send) ≤ v - (c .linksetup + f * c .send) + (f - a) * c .send
   kept v a f h = go (f - a) (add-sub-of-le h)
     where
-      go : (e : ℕ) → a + e ≡ f → v - (c .link + a * c .send) ≤ v - (c .link + f * c .send) + e * c .send
+      go : (e : ℕ) → a + e ≡ f → v - (c .linksetup + a * c .send) ≤ v - (c .linksetup + f * c .send) + e * c .send
       go e q = rw (← q) (omega arith)
 
   -- **No other shares hold more**: a list of at most n shares whose sends begin at t and that ends by w adds up to at most the capacity of n nodes from t to w.
@@ -29,7 +29,7 @@ module _ (c : Costs) (sends : 1 ≤ c .send) where
       let most : a ≤ first c (w - t) = first-most c sends (w - t) a (omega arith) in
       let rest : sum xs ≤ capacity c n (w - sendEnd c t a) = optimal n (sendEnd c t a) w xs (omega arith) (omega arith) in
       let f = first c (w - t) in
-      let gap : w - sendEnd c t a ≤ w - t - (c .link + f * c .send) + (f - a) * c .send = omega (arith, kept (w - t) a f most) in
+      let gap : w - sendEnd c t a ≤ w - t - (c .linksetup + f * c .send) + (f - a) * c .send = omega (arith, kept (w - t) a f most) in
       omega (arith, slack c sends n _ _ (f - a) gap)
 
   -- The greedy list ends within the window.
@@ -42,7 +42,7 @@ module _ (c : Costs) (sends : 1 ≤ c .send) where
           → finish c t (cut a (greedy c n (left c w a))) ≤ t + w
       go zero e ih = omega arith
       go (suc a) e ih =
-          let fits : c .link + c .node + suc a * (c .send + c .compute) ≤ w = rw e at (first-fits c sends w (omega arith)) in
+          let fits : c .linksetup + c .nodesetup + suc a * (c .send + c .compute) ≤ w = rw e at (first-fits c sends w (omega arith)) in
           omega (arith, ih (sendEnd c t (suc a)) (left c w (suc a)))
 
   -- The greedy list adds up to the capacity.

@@ -3,16 +3,19 @@
 // What each function means is in specs/Model.antt; the other files of specs/ show what follows.
 ghost use mathlib.Core.Path.{_≡_};
 ghost use mathlib.Core.Bool.{true};
-ghost use Prim.Native.Nat.{_-_, _≤_, _<_};
-ghost use Rattle.shares.specs.Model.{first, answers, nextOf, capacityOf, fewestOf, earliestOf, sharesOf};
+ghost use Prim.Native.Nat.{_+_, _≤_, _<_};
+ghost use Rattle.shares.specs.Model.{sendEnd, chunkFinish, first, answers, nextOf, fewestOf, earliestOf, sharesOf};
+ghost use Rattle.shares.specs.Model as model;
+use numbers::less;
+use numbers::smaller;
 
 // Ticks: to send a unit (document 01's m), to compute a unit (p), to set up a send on the link (ST), to
 // set up a node (SC).
 pub struct Costs {
     pub send: u64,
     pub compute: u64,
-    pub link: u64,
-    pub node: u64,
+    pub linksetup: u64,
+    pub nodesetup: u64,
 }
 
 // What the first node of a window holds, and what it leaves of the window to the remaining nodes.
@@ -44,14 +47,20 @@ pub fn answerable(costs: Costs, nodes: usize) -> bool
     nodes <= 64
 }
 
-// The difference, and 0 where there is none.
-fn less(a: u64, b: u64) -> u64
-    ensures { λ r. ⌜ r ≡ a - b ⌝ }
+// When the send of some units has ended that begins at `from`.
+pub fn send_end(costs: Costs, from: u64, units: u64) -> u64
+    requires { ⌜ sendEnd costs from units < 18446744073709551616 ⌝ }
+    ensures { λ r. ⌜ r ≡ sendEnd costs from units ⌝ }
 {
-    if a < b {
-        return 0;
-    }
-    a - b
+    from + (costs.linksetup + units * costs.send)
+}
+
+// When its chunk has finished: computing follows the send.
+pub fn chunk_finish(costs: Costs, from: u64, units: u64) -> u64
+    requires { ⌜ chunkFinish costs from units < 18446744073709551616 ⌝ }
+    ensures { λ r. ⌜ r ≡ chunkFinish costs from units ⌝ }
+{
+    send_end(costs, from, units) + (costs.nodesetup + units * costs.compute)
 }
 
 // The largest share that the first node of a window can hold; 0 where not even 1 unit fits. The tests come
@@ -59,7 +68,7 @@ fn less(a: u64, b: u64) -> u64
 pub fn first_share(costs: Costs, window: u64) -> u64
     ensures { λ r. ⌜ r ≡ first costs window ⌝ }
 {
-    let spare = less(less(window, costs.link), costs.node);
+    let spare = less(less(window, costs.linksetup), costs.nodesetup);
     if spare < costs.send {
         return 0;
     }
@@ -78,26 +87,8 @@ pub fn next_share(costs: Costs, window: u64) -> Share
     ensures { λ r. ⌜ r ≡ nextOf costs window ⌝ }
 {
     let units = first_share(costs, window);
-    let left = less(window, costs.link + units * costs.send);
+    let left = less(window, costs.linksetup + units * costs.send);
     Share { units, left }
-}
-
-// What `nodes` nodes hold in a window: the first its share, and the rest what it leaves, in the same way.
-// If not even 1 fits, it holds 0 and so do the rest.
-pub fn capacity(costs: Costs, nodes: usize, window: u64) -> u64
-    ensures { λ r. ⌜ r ≡ capacityOf costs nodes window ⌝ }
-{
-    if nodes == 0 {
-        return 0;
-    }
-    if !answerable(costs, nodes) {
-        return 0;
-    }
-    let next = next_share(costs, window);
-    if next.units == 0 {
-        return 0;
-    }
-    next.units + capacity(costs, nodes - 1, next.left)
 }
 
 // The fewest nodes, of at most `nodes`, that hold a size in a window, or that none do.
@@ -134,13 +125,6 @@ struct Tried {
     gap: u64,
 }
 
-fn smaller(a: u64, b: u64) -> u64 {
-    if a < b {
-        return a;
-    }
-    b
-}
-
 // The ticks of a unit, sent and computed; no more than a guess where they wrap.
 fn each_of(costs: Costs) -> u64 {
     std::num::wrapping_add_u64(costs.send, costs.compute)
@@ -152,42 +136,54 @@ fn unused(costs: Costs, window: u64) -> u64 {
     if each == 0 {
         return 0;
     }
-    less(less(window, costs.link), costs.node) % each
+    less(less(window, costs.linksetup), costs.nodesetup) % each
 }
 
-// Tries a window: the shares are added up as in `capacity`.
-fn try_window(costs: Costs, nodes: usize, window: u64) -> Tried
-    requires { ⌜ answers costs nodes ≡ true ⌝ }
-    ensures { λ r. ⌜ r .units ≡ capacityOf costs nodes window ⌝ }
+// A window in which nothing is held.
+fn nothing(costs: Costs, window: u64) -> Tried
+    ensures { λ r. ⌜ r .units ≡ 0 ⌝ }
 {
-    let mut units: u64 = 0;
-    let mut spare = window;
-    let mut gap = each_of(costs);
-    let mut left = window;
-    let mut count: usize = 0;
-    while count < nodes {
-        let node = next_share(costs, left);
-        if node.units == 0 {
-            return Tried {
-                window,
-                units,
-                spare,
-                gap,
-            };
-        }
-        let over = unused(costs, left);
-        units += node.units;
-        spare = smaller(spare, over);
-        gap = smaller(gap, less(each_of(costs), over));
-        left = node.left;
-        count += 1;
-    }
     Tried {
         window,
-        units,
-        spare,
-        gap,
+        units: 0,
+        spare: u64::MAX,
+        gap: each_of(costs),
     }
+}
+
+// A window in which the first node holds a share, and the rest what they were found to hold of what it leaves.
+fn joined(costs: Costs, window: u64, share: u64, rest: Tried) -> Tried
+    requires { ⌜ share + rest .units < 18446744073709551616 ⌝ }
+    ensures { λ r. ⌜ r .units ≡ share + rest .units ⌝ }
+{
+    let over = unused(costs, window);
+    Tried {
+        window,
+        units: share + rest.units,
+        spare: smaller(rest.spare, over),
+        gap: smaller(rest.gap, less(each_of(costs), over)),
+    }
+}
+
+// What `nodes` nodes hold in a window: the first its share, and the rest what it leaves, in the same way. If not even
+// 1 fits, it holds 0 and so do the rest.
+fn capacity(costs: Costs, nodes: usize, window: u64) -> Tried
+    requires { ⌜ answers costs nodes ≡ true ⌝ }
+    ensures { λ r. ⌜ r .units ≡ model.capacity costs nodes window ⌝ }
+{
+    if nodes == 0 {
+        return nothing(costs, window);
+    }
+    let next = next_share(costs, window);
+    if next.units == 0 {
+        return nothing(costs, window);
+    }
+    joined(
+        costs,
+        window,
+        next.units,
+        capacity(costs, nodes - 1, next.left),
+    )
 }
 
 // The product, and the largest number where it would wrap.
@@ -203,8 +199,8 @@ fn product(a: u64, b: u64) -> u64 {
 
 // Where the first guess starts from: a window for the setups alone, as if half the sends had to wait.
 fn setups(costs: Costs, nodes: usize) -> Tried {
-    let waits = product(costs.link, nodes as u64) / 2;
-    let once = std::num::wrapping_add_u64(costs.link, costs.node);
+    let waits = product(costs.linksetup, nodes as u64) / 2;
+    let once = std::num::wrapping_add_u64(costs.linksetup, costs.nodesetup);
     Tried {
         window: std::num::wrapping_add_u64(once, waits),
         units: 0,
@@ -268,7 +264,7 @@ pub fn earliest_finish(costs: Costs, nodes: usize, size: u64, window: u64) -> u6
     if !answerable(costs, nodes) {
         return window;
     }
-    let mut long = try_window(costs, nodes, window);
+    let mut long = capacity(costs, nodes, window);
     if long.units < size {
         return window;
     }
@@ -278,7 +274,7 @@ pub fn earliest_finish(costs: Costs, nodes: usize, size: u64, window: u64) -> u6
     let mut turn: u64 = 0;
     while low < high {
         let middle = next_window(low, high, turn, guess(short, long, size));
-        let next = try_window(costs, nodes, middle);
+        let next = capacity(costs, nodes, middle);
         turn = next_turn(turn);
         if size <= next.units {
             high = middle;

@@ -63,7 +63,7 @@ pub record Usable (g : Figures) : Type 0 where
   pub costs : CostsWithin (g .costs)
 
 -- a job whose sends and finishes do not wrap, and whose nodes have free times
-pub record Calm (c : Costs) (j : Job) : Type 0 where
+pub record NoOverflow (c : Costs) (j : Job) : Type 0 where
   pub costs : CostsWithin c
   pub start : j .booking .start ≤ greatest
   pub count : j .booking .count ≤ 64
@@ -80,5 +80,5 @@ abbrev pub Inside : ℕ → Key → Type 0
 Inside n k = k .place < n
 
 -- r says of a job's chunks behind b whether they fit, and what they leave to all that follow
-pub record Swept (c : Costs) (b : Busy) (j : Job) (r : Fit) : Type 0 where
+pub record FitResult (c : Costs) (b : Busy) (j : Job) (r : Fit) : Type 0 where
   pub rest : (xs : List Span) → fitAll b (spansOf c j ++ xs) ≡ r .fits && fitAll (r .busy) xs

@@ -27,7 +27,7 @@ use Rattle.walk.specs.Model.{greatest, noJob, chunksFrom, Span, spansOf, spansO
 use Rattle.walk.specs.Rows.{order-is, order-within}
 use Rattle.soundness.specs.declared.Figures.{Figures}
 use Rattle.soundness.specs.declared.Fit.{Fit}
-use Rattle.soundness.specs.Model.{noneOf, allDiffer, nodesKnown, sharesKept, offerWithin, headFront, headWithin, jobPasses, allPass, numbersOf, Usable, Calm, Inside, Swept}
+use Rattle.soundness.specs.Model.{noneOf, allDiffer, nodesKnown, sharesKept, offerWithin, headFront, headWithin, jobPasses, allPass, numbersOf, Usable, NoOverflow, Inside, FitResult}
 
 -- 2^32 - 1 units at a million ticks each
 pub product-small : (u e : ℕ) → u < 4294967296 → e ≤ 1000000 → u * e ≤ 4294967295000000
@@ -94,11 +94,11 @@ module _ (c : Costs) (z d s t : ℕ) (us : List ℕ) (i n : ℕ) (h : i < n) (k 
   shares-late l = rw (slice-cons i n us 0 h k) (kept-late c z d s t (getD us i 0) (slice (suc i) n us) l)
 
   -- The same with what the code works out.
-  pub shares-step : (a sent ends : ℕ) → a ≡ getD us i 0 → sent ≡ sendEnd c t a → ends ≡ sent + (c .node + a * c .compute) → 1 ≤ a → ends ≤ d
+  pub shares-step : (a sent ends : ℕ) → a ≡ getD us i 0 → sent ≡ sendEnd c t a → ends ≡ sent + (c .nodesetup + a * c .compute) → 1 ≤ a → ends ≤ d
       → sharesKept c z d s t (slice i n us) ≡ sharesKept c z d (s + a) sent (slice (i + 1) n us)
   shares-step a sent ends e f g l m = rw (f, e) (shares-more (rw e at l) (rw (g, f, e) at m))
 
-  pub shares-over : (a sent ends : ℕ) → a ≡ getD us i 0 → sent ≡ sendEnd c t a → ends ≡ sent + (c .node + a * c .compute) → d < ends
+  pub shares-over : (a sent ends : ℕ) → a ≡ getD us i 0 → sent ≡ sendEnd c t a → ends ≡ sent + (c .nodesetup + a * c .compute) → d < ends
       → sharesKept c z d s t (slice i n us) ≡ false
   shares-over a sent ends e f g m = shares-late (rw (g, f, e) at m)
 
@@ -109,9 +109,9 @@ shares-none c z d s t us n = let e : s + 0 ≡ s = omega arith in rw (slice-empt
 -- ---- The jobs
 
 -- A job within its limits has sums that do not wrap.
-pub calm-of : (g : Figures) (j : Job) → Usable g → headWithin g j ≡ true → Calm (g .costs) j
+pub no-overflow-of : (g : Figures) (j : Job) → Usable g → headWithin g j ≡ true → NoOverflow (g .costs) j
 unfolding headWithin
-calm-of g j u e =
+no-overflow-of g j u e =
     let p = and-both (headFront g j) (nodesKnown (g .nodes) (chosen (j .booking))) e in
     let q = and-both (offerWithin g j && leb (j .booking .start) greatest) (between 1 (j .booking .count) 64) (p .0) in
     let r = and-both (offerWithin g j) (leb (j .booking .start) greatest) (q .0) in
@@ -137,12 +137,12 @@ pub job-whole : (g : Figures) (j : Job) → headWithin g j ≡ true → g .clock
 unfolding jobPasses
 job-whole g j e h = rw (e, le-leb (g .clock) (j .booking .start) h)
 
-pub calm-all : (g : Figures) (js : List Job) → Usable g → allPass g js ≡ true → All (Calm (g .costs)) js
+pub no-overflow-all : (g : Figures) (js : List Job) → Usable g → allPass g js ≡ true → All (NoOverflow (g .costs)) js
 unfolding allPass jobPasses
-calm-all g [] u e = tt
-calm-all g (j ∷ js) u e =
+no-overflow-all g [] u e = tt
+no-overflow-all g (j ∷ js) u e =
     let p = and-both (headWithin g j && _) (allPass g js) e in
-    (calm-of g j u (and-both (headWithin g j) _ (p .0) .0), calm-all g js u (p .1))
+    (no-overflow-of g j u (and-both (headWithin g j) _ (p .0) .0), no-overflow-all g js u (p .1))
 
 module _ (g : Figures) (jobs : List Job) (i n : ℕ) (h : i < n) (k : n ≤ length jobs) where
   pass-cons : allPass g (slice i n jobs) ≡ jobPasses g (getD jobs i noJob) && allPass g (slice (i + 1) n jobs)
@@ -254,40 +254,40 @@ spans-none c n s p t ks us m xs = rw (slice-empty m ks, slice-empty m us)
 
 -- Of a booking's chunks those from the i-th on are left, behind `now`, the next one sent from t on: whether all fit behind `busy` is whether
 -- these fit behind `now`, whatever follows.
-pub record Unswept (c : Costs) (busy : Busy) (b : Booking) (now : Busy) (t i : ℕ) : Type 0 where
+pub record Fitting (c : Costs) (busy : Busy) (b : Booking) (now : Busy) (t i : ℕ) : Type 0 where
   pub rest : (n s : ℕ) (xs : List Span)
       → fitAll busy (spansFrom c n s (b .start) (b .start) (chosen b) (units b) ++ xs) ≡ fitAll now (spansFrom c n s (b .start) t (slice i (b .count) (b .nodes)) (slice i (b .count) (b .shares)) ++ xs)
 
-pub unswept-start : (c : Costs) (busy : Busy) (b : Booking) → Unswept c busy b busy (b .start) 0
-unswept-start c busy b = record { rest = λ n s xs. refl }
+pub fitting-start : (c : Costs) (busy : Busy) (b : Booking) → Fitting c busy b busy (b .start) 0
+fitting-start c busy b = record { rest = λ n s xs. refl }
 
-module _ (c : Costs) (busy : Busy) (b : Booking) (now : Busy) (t i : ℕ) (u : Unswept c busy b now t i) (h : i < b .count) (k : b .count ≤ length (b .nodes)) (l : b .count ≤ length (b .shares)) where
+module _ (c : Costs) (busy : Busy) (b : Booking) (now : Busy) (t i : ℕ) (u : Fitting c busy b now t i) (h : i < b .count) (k : b .count ≤ length (b .nodes)) (l : b .count ≤ length (b .shares)) where
   -- The next chunk fits.
-  pub unswept-more : now .link ≤ t → freeAt (now .free) (getD (b .nodes) i 0) ≤ b .start
-      → Unswept c busy b (sentTo c now t (getD (b .nodes) i 0) (getD (b .shares) i 0)) (sendEnd c t (getD (b .shares) i 0)) (i + 1)
-  unswept-more p q = record { rest = λ n s xs. u .rest n s xs ∙ spans-more c n s (b .start) now t (b .nodes) (b .shares) xs i (b .count) h k l p q }
+  pub fitting-more : now .link ≤ t → freeAt (now .free) (getD (b .nodes) i 0) ≤ b .start
+      → Fitting c busy b (sentTo c now t (getD (b .nodes) i 0) (getD (b .shares) i 0)) (sendEnd c t (getD (b .shares) i 0)) (i + 1)
+  fitting-more p q = record { rest = λ n s xs. u .rest n s xs ∙ spans-more c n s (b .start) now t (b .nodes) (b .shares) xs i (b .count) h k l p q }
 
   -- The same with what the code works out.
-  pub unswept-step : (place a sent ends : ℕ) → place ≡ getD (b .nodes) i 0 - 1 → a ≡ getD (b .shares) i 0 → sent ≡ sendEnd c t a → ends ≡ sent + (c .node + a * c .compute)
-      → now .link ≤ t → getD (now .free) place 0 ≤ b .start → Unswept c busy b (record { link = sent; free = set (now .free) place ends }) sent (i + 1)
-  unswept-step place a sent ends d e f g p q = rw (g, f, e, d) (unswept-more p (rw d at q))
+  pub fitting-step : (place a sent ends : ℕ) → place ≡ getD (b .nodes) i 0 - 1 → a ≡ getD (b .shares) i 0 → sent ≡ sendEnd c t a → ends ≡ sent + (c .nodesetup + a * c .compute)
+      → now .link ≤ t → getD (now .free) place 0 ≤ b .start → Fitting c busy b (record { link = sent; free = set (now .free) place ends }) sent (i + 1)
+  fitting-step place a sent ends d e f g p q = rw (g, f, e, d) (fitting-more p (rw d at q))
 
   -- Its send overlaps.
-  pub unswept-link : (r : Fit) (j : Job) → r .fits ≡ false → j .booking ≡ b → t < now .link → Swept c busy j r
-  unswept-link r j e o p = record {
+  pub fitting-link : (r : Fit) (j : Job) → r .fits ≡ false → j .booking ≡ b → t < now .link → FitResult c busy j r
+  fitting-link r j e o p = record {
     rest = λ xs. rw (o, e) (u .rest (j .number) (j .show) xs ∙ spans-link c (j .number) (j .show) (b .start) now t (b .nodes) (b .shares) xs i (b .count) h k l p);
   }
 
   -- Its node is not free.
-  pub unswept-node : (r : Fit) (j : Job) → r .fits ≡ false → j .booking ≡ b → b .start < freeAt (now .free) (getD (b .nodes) i 0) → Swept c busy j r
-  unswept-node r j e o p = record {
+  pub fitting-node : (r : Fit) (j : Job) → r .fits ≡ false → j .booking ≡ b → b .start < freeAt (now .free) (getD (b .nodes) i 0) → FitResult c busy j r
+  fitting-node r j e o p = record {
     rest = λ xs. rw (o, e) (u .rest (j .number) (j .show) xs ∙ spans-node c (j .number) (j .show) (b .start) now t (b .nodes) (b .shares) xs i (b .count) h k l p);
   }
 
 -- All chunks fit.
-pub unswept-none : (c : Costs) (busy : Busy) (j : Job) (now : Busy) (t i : ℕ) → Unswept c busy (j .booking) now t i → i ≡ j .booking .count
-    → Swept c busy j (record { fits = true; busy = now })
-unswept-none c busy j now t i u e =
+pub fitting-none : (c : Costs) (busy : Busy) (j : Job) (now : Busy) (t i : ℕ) → Fitting c busy (j .booking) now t i → i ≡ j .booking .count
+    → FitResult c busy j (record { fits = true; busy = now })
+fitting-none c busy j now t i u e =
     let b = j .booking in
     record { rest = λ xs. u .rest (j .number) (j .show) xs ∙ rw (e, spans-none c (j .number) (j .show) (b .start) t (b .nodes) (b .shares) (b .count) xs) }
 
@@ -298,16 +298,16 @@ module _ (c : Costs) (b : Busy) (jobs : List Job) (keys : List Key) (i n : ℕ) 
   key-inside =
       subst (Inside n) (getD-take n keys i noKey h) (all-nth noKey (Inside n) (take n keys) i inside (omega (arith, length-take-le n keys fits)))
 
-  pub key-calm : All (Calm c) (take n jobs) → Calm c (getD jobs (getD keys i noKey .place) noJob)
-  key-calm a =
-      subst (Calm c) (getD-take n jobs (getD keys i noKey .place) noJob key-inside) (all-nth noJob (Calm c) (take n jobs) (getD keys i noKey .place) a (omega (arith, length-take-le n jobs few, key-inside)))
+  pub key-no-overflow : All (NoOverflow c) (take n jobs) → NoOverflow c (getD jobs (getD keys i noKey .place) noJob)
+  key-no-overflow a =
+      subst (NoOverflow c) (getD-take n jobs (getD keys i noKey .place) noJob key-inside) (all-nth noJob (NoOverflow c) (take n jobs) (getD keys i noKey .place) a (omega (arith, length-take-le n jobs few, key-inside)))
 
   turn-cons : spansOfAll c (inOrder (take n jobs) (slice i n keys))
       ≡ spansOf c (getD jobs (getD keys i noKey .place) noJob) ++ spansOfAll c (inOrder (take n jobs) (slice (i + 1) n keys))
   unfolding spansOfAll
   turn-cons = rw (add-one, slice-cons i n keys noKey h fits, getD-take n jobs (getD keys i noKey .place) noJob key-inside)
 
-  module _ (r : Fit) (s : Swept c b (getD jobs (getD keys i noKey .place) noJob) r) where
+  module _ (r : Fit) (s : FitResult c b (getD jobs (getD keys i noKey .place) noJob) r) where
     pub turn-more : r .fits ≡ true → fitAll b (spansOfAll c (inOrder (take n jobs) (slice i n keys))) ≡ fitAll (r .busy) (spansOfAll c (inOrder (take n jobs) (slice (i + 1) n keys)))
     turn-more e = ap (fitAll b) turn-cons ∙ s .rest _ ∙ rw e
 

@@ -9,13 +9,13 @@ ghost use Rattle.shares.specs.Model.{sendEnd};
 ghost use Rattle.limits.specs.Model.{CostsWithin};
 ghost use Rattle.booking.specs.Best.{units};
 ghost use Rattle.walk.specs.Model.{keysBy, startOf, byStart, spansOfAll, inOrder, fitAll};
-ghost use Rattle.soundness.specs.Model.{noneOf, allDiffer, nodesKnown, sharesKept, headWithin, jobPasses, allPass, Usable, Calm, Inside, Surveys, Swept};
+ghost use Rattle.soundness.specs.Model.{noneOf, allDiffer, nodesKnown, sharesKept, headWithin, jobPasses, allPass, Usable, NoOverflow, Inside, Surveys, FitResult};
 use keys::Key;
 use limits::and;
 use limits::at_most;
 use limits::between;
-use limits::least;
-use limits::wide;
+use numbers::least;
+use numbers::wide;
 use shares::Costs;
 use walk::Busy;
 use walk::Job;
@@ -110,20 +110,20 @@ fn send_end(costs: Costs, from: u64, units: u64) -> u64
     requires { ⌜ CostsWithin costs × (from ≤ 300000000000000000) × (units < 4294967296) ⌝ }
     ensures { λ r. ⌜ (r ≡ sendEnd costs from units) × (r ≤ from + 4294968000000000) ⌝ }
 {
-    from + cost(costs.link, units, costs.send)
+    from + cost(costs.linksetup, units, costs.send)
 }
 
 // When the chunk whose send has ended at `sent` has finished.
 fn chunk_end(costs: Costs, sent: u64, units: u64) -> u64
     requires { ⌜ CostsWithin costs × (sent ≤ 400000000000000000) × (units < 4294967296) ⌝ }
-    ensures { λ r. ⌜ r ≡ sent + (costs .node + units * costs .compute) ⌝ }
+    ensures { λ r. ⌜ r ≡ sent + (costs .nodesetup + units * costs .compute) ⌝ }
 {
-    sent + cost(costs.node, units, costs.compute)
+    sent + cost(costs.nodesetup, units, costs.compute)
 }
 
 // Whether the shares are at least 1 each and add up to the size, and each chunk finishes by the deadline.
 fn shares_kept(costs: Costs, job: Job) -> bool
-    requires { ⌜ Calm costs job ⌝ }
+    requires { ⌜ NoOverflow costs job ⌝ }
     ensures { λ r. ⌜ r ≡ sharesKept costs (job .size) (job .deadline) 0 (job .booking .start) (units (job .booking)) ⌝ }
 {
     let b = job.booking;
@@ -242,8 +242,8 @@ fn place_of(node: u8) -> usize
 
 // The chunks of a job, each behind what those before it have left.
 fn job_fits(costs: Costs, busy: Busy, job: Job) -> Fit
-    requires { ⌜ Calm costs job ⌝ }
-    ensures { λ r. ⌜ Swept costs busy job r ⌝ }
+    requires { ⌜ NoOverflow costs job ⌝ }
+    ensures { λ r. ⌜ FitResult costs busy job r ⌝ }
 {
     let b = job.booking;
     let mut link = busy.link;
@@ -274,7 +274,7 @@ fn job_fits(costs: Costs, busy: Busy, job: Job) -> Fit
 
 // The jobs in the order of the keys, each behind those before it.
 fn jobs_fit(costs: Costs, busy: Busy, jobs: [Job; 128], keys: [Key; 128], count: usize) -> bool
-    requires { ⌜ (count ≤ 128) × All (Calm costs) (take count jobs) × All (Inside count) (take count keys) ⌝ }
+    requires { ⌜ (count ≤ 128) × All (NoOverflow costs) (take count jobs) × All (Inside count) (take count keys) ⌝ }
     ensures { λ r. ⌜ r ≡ fitAll busy (spansOfAll costs (inOrder (take count jobs) (take count keys))) ⌝ }
 {
     let mut now_busy = busy;
@@ -294,7 +294,7 @@ fn jobs_fit(costs: Costs, busy: Busy, jobs: [Job; 128], keys: [Key; 128], count:
 
 // The jobs by their starts, one after the other. They mostly stand in that order already.
 pub fn in_turn(costs: Costs, busy: Busy, jobs: [Job; 128], keys: [Key; 128], count: usize) -> bool
-    requires { ⌜ (count ≤ 128) × All (Calm costs) (take count jobs) × (take count keys ≡ keysBy startOf 0 (take count jobs)) ⌝ }
+    requires { ⌜ (count ≤ 128) × All (NoOverflow costs) (take count jobs) × (take count keys ≡ keysBy startOf 0 (take count jobs)) ⌝ }
     ensures { λ r. ⌜ r ≡ fitAll busy (spansOfAll costs (byStart (take count jobs))) ⌝ }
 {
     let order = keys::sorted(keys, count);

@@ -86,7 +86,7 @@ module _ (c : Costs) (shares : List ℕ) (n start place : ℕ) (first cells : Li
   pub raising-ends : chunkFinish c time (getD shares i 0) ≤ greatest
   raising-ends = ends-next c shares shares n i h g g time (x .ends) .0
 
-  pub raising-next : place < 32 → (a sent done : ℕ) → a ≡ getD shares i 0 → sent ≡ sendEnd c time a → done ≡ sent + (c .node + a * c .compute)
+  pub raising-next : place < 32 → (a sent done : ℕ) → a ≡ getD shares i 0 → sent ≡ sendEnd c time a → done ≡ sent + (c .nodesetup + a * c .compute)
       → Raising c shares n start place first (addTo cells place (done - start)) sent (i + 1)
   raising-next k a sent done ea es ed =
       let t : sent ≡ sendEnd c time (getD shares i 0) = es ∙ rw ea in

@@ -90,15 +90,15 @@ fn send_end(costs: Costs, time: u64, units: u64) -> u64
     requires { ⌜ sendEnd costs time units ≤ greatest ⌝ }
     ensures { λ r. ⌜ r ≡ sendEnd costs time units ⌝ }
 {
-    time + (costs.link + units * costs.send)
+    time + (costs.linksetup + units * costs.send)
 }
 
 // When a chunk is done that is sent by `sent`.
 fn done_at(costs: Costs, sent: u64, units: u64) -> u64
-    requires { ⌜ sent + (costs .node + units * costs .compute) ≤ greatest ⌝ }
-    ensures { λ r. ⌜ r ≡ sent + (costs .node + units * costs .compute) ⌝ }
+    requires { ⌜ sent + (costs .nodesetup + units * costs .compute) ≤ greatest ⌝ }
+    ensures { λ r. ⌜ r ≡ sent + (costs .nodesetup + units * costs .compute) ⌝ }
 {
-    sent + (costs.node + units * costs.compute)
+    sent + (costs.nodesetup + units * costs.compute)
 }
 
 // The held ticks after a job has begun: each of its chunks adds its finish minus the job's start.

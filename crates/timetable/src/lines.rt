@@ -23,7 +23,7 @@ fn line(costs: Costs, job: Job, i: usize, from: u64) -> Chunk
 {
     let booking = job.booking;
     let units = wide32(booking.shares[i]);
-    let sent = from + (costs.link + units * costs.send);
+    let sent = from + (costs.linksetup + units * costs.send);
     Chunk {
         job: job.number,
         show: job.show,
@@ -31,7 +31,7 @@ fn line(costs: Costs, job: Job, i: usize, from: u64) -> Chunk
         units,
         start: from,
         sent,
-        finish: sent + (costs.node + units * costs.compute),
+        finish: sent + (costs.nodesetup + units * costs.compute),
     }
 }
 

@@ -22,15 +22,15 @@ fn check_counts() {
     let plain = Costs {
         send: 1,
         compute: 2,
-        link: 0,
-        node: 0,
+        linksetup: 0,
+        nodesetup: 0,
     };
     check::expect(count_of(shares::fewest_nodes(plain, 3, 10, 18)) == 2);
     let even = Costs {
         send: 10,
         compute: 20,
-        link: 0,
-        node: 0,
+        linksetup: 0,
+        nodesetup: 0,
     };
     check::expect(count_of(shares::fewest_nodes(even, 3, 4, 75)) == 3);
 }
@@ -71,8 +71,8 @@ fn main() {
     let plain = Costs {
         send: 1,
         compute: 2,
-        link: 0,
-        node: 0,
+        linksetup: 0,
+        nodesetup: 0,
     };
     try_window(b'A', plain, 64, 10, 30);
     try_window(b'B', plain, 64, 10, 29);
@@ -82,16 +82,16 @@ fn main() {
     let even = Costs {
         send: 10,
         compute: 20,
-        link: 0,
-        node: 0,
+        linksetup: 0,
+        nodesetup: 0,
     };
     try_window(b'F', even, 64, 4, 80);
     try_window(b'G', even, 64, 4, 75);
     let setups = Costs {
         send: 1,
         compute: 2,
-        link: 2,
-        node: 1,
+        linksetup: 2,
+        nodesetup: 1,
     };
     try_window(b'H', setups, 64, 3, 12);
     try_window(b'I', setups, 64, 3, 10);

@@ -1,19 +1,21 @@
 -- `shares::capacity` meets its contract: a recursion over the nodes left. The measure is their count.
-use mathlib.Core.Path.{_≡_, sym, ap, subst, _∙_}
+use mathlib.Core.Path.{_≡_, sym, ap, _∙_}
 use native.Mathlib.Omega.{arith}
+use Rattle.shares.specs.declared.Share.{Share}
+use Rattle.shares.specs.Model.{first, nextOf}
+use Rattle.shares.specs.Model as model
+use Rattle.shares.specs.Capacity.{none-fits, at-most-window}
+use Rattle.shares.specs.Answers.{answered, answered-is, capacity-no-node, capacity-next}
 use borrow.Author.Needs.{needs}
-use Prim.Native.Nat.{ℕ, _+_, _-_, _≤_, _<_}
-use borrow.Author.Tests.{not-true, not-false}
+use Prim.Native.Nat.{ℕ, _+_, _-_, _<_}
 use borrow.Fn.Kinds.{In}
 use borrow.Fn.PlainCycle.{Measures, is, falls, and}
-use Rattle.shares.specs.declared.Share.{Share}
-use Rattle.shares.specs.Model.{first, left, nextOf, capacityOf, answers}
-use Rattle.shares.specs.Answers.{capacity-no-node, capacity-refused, capacity-none, capacity-next, capacity-within}
 use Rattle.shares.proofs.capacity.Reads as capacity
 use Rattle.shares.proofs.capacity.Kinds as capacity-kinds
 use Rattle.shares.proofs.+capacity.Lts-capacity as capacity-lts
-use Rattle.shares.proofs.answerable.Reads as answerable-reads
+use Rattle.shares.proofs.joined.Reads as joined-reads
 use Rattle.shares.proofs.next_share.Reads as next-share-reads
+use Rattle.shares.proofs.nothing.Reads as nothing-reads
 use Rattle.shares.proofs.+capacity.{statement}
 use Rattle.shares.proofs.+capacity.Tie.{close}
 
@@ -27,60 +29,61 @@ abbrev capacity-below : ℕ → In 0 capacity-kinds.ps
 capacity-below t =
     and 0 capacity-kinds.ps (falls 0 capacity-kinds.ps _<_ μ-capacity t) capacity.Pre
 
-capacity-returns : (t : ℕ) → capacity-lts.Need-returns (answerable-reads.Asked, answerable-reads.Learnt, next-share-reads.Asked, next-share-reads.Learnt, capacity-below t, capacity.Post) (capacity-at t) capacity.Post
-capacity-returns t c = rw (c .if1 .taken) (sym (capacity-no-node (c .before .args .costs) (c .before .args .window)))
+capacity-nothing-requires : (t : ℕ) → capacity-lts.Need-nothing-requires (nothing-reads.Asked, nothing-reads.Learnt, next-share-reads.Asked, next-share-reads.Learnt, capacity-below t, capacity.Post, joined-reads.Asked, joined-reads.Learnt) (capacity-at t) capacity.Post
+capacity-nothing-requires t c κs = search needs
 
-capacity-answerable-requires : (t : ℕ) → capacity-lts.Need-answerable-requires (answerable-reads.Asked, answerable-reads.Learnt, next-share-reads.Asked, next-share-reads.Learnt, capacity-below t, capacity.Post) (capacity-at t) capacity.Post
-capacity-answerable-requires t c κs = search needs
+capacity-returns : (t : ℕ) → capacity-lts.Need-returns (nothing-reads.Asked, nothing-reads.Learnt, next-share-reads.Asked, next-share-reads.Learnt, capacity-below t, capacity.Post, joined-reads.Asked, joined-reads.Learnt) (capacity-at t) capacity.Post
+capacity-returns t c = c .nothing .ensures ∙ rw (c .before .if1 .taken) (sym (capacity-no-node (c .before .before .args .costs) (c .before .before .args .window)))
 
-capacity-returns-2 : (t : ℕ) → capacity-lts.Need-returns-2 (answerable-reads.Asked, answerable-reads.Learnt, next-share-reads.Asked, next-share-reads.Learnt, capacity-below t, capacity.Post) (capacity-at t) capacity.Post
-capacity-returns-2 t c =
-    let a = c .before .before .before .args in
-    sym (capacity-refused (a .costs) (a .nodes) (a .window) (sym (c .before .answerable .ensures) ∙ not-true _ (c .if2 .taken)))
-
-capacity-next-share-requires : (t : ℕ) → capacity-lts.Need-next-share-requires (answerable-reads.Asked, answerable-reads.Learnt, next-share-reads.Asked, next-share-reads.Learnt, capacity-below t, capacity.Post) (capacity-at t) capacity.Post
+capacity-next-share-requires : (t : ℕ) → capacity-lts.Need-next-share-requires (nothing-reads.Asked, nothing-reads.Learnt, next-share-reads.Asked, next-share-reads.Learnt, capacity-below t, capacity.Post, joined-reads.Asked, joined-reads.Learnt) (capacity-at t) capacity.Post
 capacity-next-share-requires t c κs = search needs
 
-capacity-returns-3 : (t : ℕ) → capacity-lts.Need-returns-3 (answerable-reads.Asked, answerable-reads.Learnt, next-share-reads.Asked, next-share-reads.Learnt, capacity-below t, capacity.Post) (capacity-at t) capacity.Post
-unfolding nextOf
-capacity-returns-3 t c =
-    let a = c .before .before .before .before .before .before .args in
-    sym (capacity-none (a .costs) (a .nodes) (a .window) (sym (ap (λ (x : Share). x .units) (c .before .before .next-share .ensures)) ∙ c .if3 .taken))
+capacity-nothing-requires-2 : (t : ℕ) → capacity-lts.Need-nothing-requires-2 (nothing-reads.Asked, nothing-reads.Learnt, next-share-reads.Asked, next-share-reads.Learnt, capacity-below t, capacity.Post, joined-reads.Asked, joined-reads.Learnt) (capacity-at t) capacity.Post
+capacity-nothing-requires-2 t c κs = search needs
 
-capacity-sub-capacity : (t : ℕ) → capacity-lts.Need-sub-capacity (answerable-reads.Asked, answerable-reads.Learnt, next-share-reads.Asked, next-share-reads.Learnt, capacity-below t, capacity.Post) (capacity-at t) capacity.Post
+capacity-returns-2 : (t : ℕ) → capacity-lts.Need-returns-2 (nothing-reads.Asked, nothing-reads.Learnt, next-share-reads.Asked, next-share-reads.Learnt, capacity-below t, capacity.Post, joined-reads.Asked, joined-reads.Learnt) (capacity-at t) capacity.Post
+unfolding nextOf
+capacity-returns-2 t c =
+    let a = c .before .before .before .before .before .args in
+    let none : first (a .costs) (a .window) ≡ 0 = sym (ap (λ (x : Share). x .units) (c .before .before .before .next-share .ensures)) ∙ c .before .if2 .taken in
+    c .nothing2 .ensures ∙ sym (none-fits (a .costs) (answered-is (a .costs) (a .nodes) (c .before .before .before .before .before .pre .1) .0) (a .nodes) (a .window) (a .window) none (omega arith))
+
+capacity-sub-capacity : (t : ℕ) → capacity-lts.Need-sub-capacity (nothing-reads.Asked, nothing-reads.Learnt, next-share-reads.Asked, next-share-reads.Learnt, capacity-below t, capacity.Post, joined-reads.Asked, joined-reads.Learnt) (capacity-at t) capacity.Post
 capacity-sub-capacity t c = omega arith
 
-capacity-capacity-requires : (t : ℕ) → capacity-lts.Need-capacity-requires (answerable-reads.Asked, answerable-reads.Learnt, next-share-reads.Asked, next-share-reads.Learnt, capacity-below t, capacity.Post) (capacity-at t) capacity.Post
-capacity-capacity-requires t c κs = (omega arith, tt)
+capacity-capacity-requires : (t : ℕ) → capacity-lts.Need-capacity-requires (nothing-reads.Asked, nothing-reads.Learnt, next-share-reads.Asked, next-share-reads.Learnt, capacity-below t, capacity.Post, joined-reads.Asked, joined-reads.Learnt) (capacity-at t) capacity.Post
+capacity-capacity-requires t c κs =
+    let a = c .before .before .before .before .args in
+    let g = answered-is (a .costs) (a .nodes) (c .before .before .before .before .pre .1) in
+    (omega arith, answered (a .costs) (a .nodes - 1) (g .0) (omega arith))
 
 -- the share and what the rest hold are the capacity
-adds : (t : ℕ) (c : capacity-lts.After-struct-known2 (answerable-reads.Asked, answerable-reads.Learnt, next-share-reads.Asked, next-share-reads.Learnt, capacity-below t, capacity.Post) (capacity-at t) capacity.Post)
-    → c .before .before .before .before .next-share .result .units + c .before .capacity .result ≡ capacityOf (c .before .before .before .before .before .before .before .before .args .costs) (c .before .before .before .before .before .before .before .before .args .nodes) (c .before .before .before .before .before .before .before .before .args .window)
+adds : (t : ℕ) (c : capacity-lts.After-capacity (nothing-reads.Asked, nothing-reads.Learnt, next-share-reads.Asked, next-share-reads.Learnt, capacity-below t, capacity.Post, joined-reads.Asked, joined-reads.Learnt) (capacity-at t) capacity.Post)
+    → c .before .before .before .next-share .result .units + c .capacity .result .units ≡ model.capacity (c .before .before .before .before .before .args .costs) (c .before .before .before .before .before .args .nodes) (c .before .before .before .before .before .args .window)
 unfolding nextOf
 adds t c =
-    let a = c .before .before .before .before .before .before .before .before .args in
-    let some : 1 ≤ a .nodes = omega arith in
-    rw (c .before .capacity .ensures, c .before .before .before .before .next-share .ensures)
-    (sym (capacity-next (a .costs) (a .nodes) (a .window) some (sym (c .before .before .before .before .before .before .answerable .ensures) ∙ not-false _ (c .before .before .before .before .before .if2 .left))))
+    let a = c .before .before .before .before .before .args in
+    rw (c .capacity .ensures, c .before .before .before .next-share .ensures) (sym (capacity-next (a .costs) (a .nodes) (a .window) (omega arith)))
 
-capacity-add-result : (t : ℕ) → capacity-lts.Need-add-result (answerable-reads.Asked, answerable-reads.Learnt, next-share-reads.Asked, next-share-reads.Learnt, capacity-below t, capacity.Post) (capacity-at t) capacity.Post
-capacity-add-result t c =
-    let a = c .before .before .before .before .before .before .before .before .args in
-    omega (arith, adds t c, capacity-within (a .costs) (a .nodes) (a .window))
+capacity-joined-requires : (t : ℕ) → capacity-lts.Need-joined-requires (nothing-reads.Asked, nothing-reads.Learnt, next-share-reads.Asked, next-share-reads.Learnt, capacity-below t, capacity.Post, joined-reads.Asked, joined-reads.Learnt) (capacity-at t) capacity.Post
+capacity-joined-requires t c κs =
+    let a = c .before .before .before .before .before .args in
+    let g = answered-is (a .costs) (a .nodes) (c .before .before .before .before .before .pre .1) in
+    omega (arith, adds t c, at-most-window (a .costs) (g .0) (a .nodes) (a .window))
 
-capacity-returns-4 : (t : ℕ) → capacity-lts.Need-returns-4 (answerable-reads.Asked, answerable-reads.Learnt, next-share-reads.Asked, next-share-reads.Learnt, capacity-below t, capacity.Post) (capacity-at t) capacity.Post
-capacity-returns-4 t c = adds t c
+capacity-returns-3 : (t : ℕ) → capacity-lts.Need-returns-3 (nothing-reads.Asked, nothing-reads.Learnt, next-share-reads.Asked, next-share-reads.Learnt, capacity-below t, capacity.Post, joined-reads.Asked, joined-reads.Learnt) (capacity-at t) capacity.Post
+capacity-returns-3 t c = c .joined .ensures ∙ adds t (c .before)
 
 pub +capacity-spec : {M : Type 1} → statement M
-+capacity-spec = close μ-capacity λ t. capacity-lts.spec (answerable-reads.Asked, answerable-reads.Learnt, next-share-reads.Asked, next-share-reads.Learnt, capacity-below t, capacity.Post)
++capacity-spec = close μ-capacity λ t. capacity-lts.spec (nothing-reads.Asked, nothing-reads.Learnt, next-share-reads.Asked, next-share-reads.Learnt, capacity-below t, capacity.Post, joined-reads.Asked, joined-reads.Learnt)
     (capacity-at t)
     capacity.Post
+    (capacity-nothing-requires t)
     (capacity-returns t)
-    (capacity-answerable-requires t)
-    (capacity-returns-2 t)
     (capacity-next-share-requires t)
-    (capacity-returns-3 t)
+    (capacity-nothing-requires-2 t)
+    (capacity-returns-2 t)
     (capacity-sub-capacity t)
     (capacity-capacity-requires t)
-    (capacity-add-result t)
-    (capacity-returns-4 t)
+    (capacity-joined-requires t)
+    (capacity-returns-3 t)

@@ -8,7 +8,7 @@ use borrow.Author.Tests.{not-true, not-false}
 use Rattle.shares.specs.Model.{capacity, earliest, answers}
 use Rattle.shares.specs.Capacity.{longer}
 use Rattle.shares.specs.Least.{earliest-same, earliest-stays, earliest-short}
-use Rattle.shares.specs.Answers.{answered-is, capacity-answer, earliest-refused, earliest-answer}
+use Rattle.shares.specs.Answers.{answered-is, earliest-refused, earliest-answer}
 use borrow.Author.Needs.{needs}
 use Rattle.shares.proofs.earliest_finish.Statement.{statement}
 use Rattle.shares.proofs.earliest_finish.Tie as tie
@@ -28,14 +28,14 @@ returns c =
     let a = c .before .before .args in
     sym (earliest-refused (a .costs) (a .nodes) (a .size) (a .window) (sym (c .before .answerable .ensures) ∙ not-true _ (c .if1 .taken)))
 
-try-window-requires : tie.Need-try-window-requires Inv-loop μ-loop
-try-window-requires c κs = sym (c .before .answerable .ensures) ∙ not-false _ (c .if1 .left)
+capacity-requires : tie.Need-capacity-requires Inv-loop μ-loop
+capacity-requires c κs = sym (c .before .answerable .ensures) ∙ not-false _ (c .if1 .left)
 
 returns-2 : tie.Need-returns-2 Inv-loop μ-loop
 returns-2 c =
     let a = c .before .before .before .before .before .args in
     let ok : answers (a .costs) (a .nodes) ≡ true = sym (c .before .before .before .before .answerable .ensures) ∙ not-false _ (c .before .before .before .if1 .left) in
-    let held : c .before .before .try-window .result .units ≡ capacity (a .costs) (a .nodes) (a .window) = c .before .before .try-window .ensures ∙ capacity-answer (a .costs) (a .nodes) (a .window) ok in
+    let held : c .before .before .capacity .result .units ≡ capacity (a .costs) (a .nodes) (a .window) = c .before .before .capacity .ensures in
     sym (earliest-answer (a .costs) (a .nodes) (a .size) (a .window) ok ∙ earliest-short (a .costs) (answered-is (a .costs) (a .nodes) ok .0) (a .nodes) (a .size) (a .window) (omega arith))
 
 setups-requires : tie.Need-setups-requires Inv-loop μ-loop
@@ -50,8 +50,8 @@ guess-requires c κs = search needs
 next-window-requires : tie.Need-next-window-requires Inv-loop μ-loop
 next-window-requires c κs = search needs
 
-try-window-requires-2 : tie.Need-try-window-requires-2 Inv-loop μ-loop
-try-window-requires-2 c κs = c .before .before .before .loop .inv .0
+capacity-requires-2 : tie.Need-capacity-requires-2 Inv-loop μ-loop
+capacity-requires-2 c κs = c .before .before .before .loop .inv .0
 
 next-turn-requires : tie.Need-next-turn-requires Inv-loop μ-loop
 next-turn-requires c κs = search needs
@@ -64,7 +64,7 @@ loop-again c =
     let a = c .before .before .before .before .before .before .before .before .before .before .before .before .before .before .args in
     let l = c .before .before .before .before .before .before .before .loop in
     let middle = c .before .before .before .before .next-window .result in
-    let held : c .before .before .before .try-window2 .result .units ≡ capacity (a .costs) (a .nodes) middle = c .before .before .before .try-window2 .ensures ∙ capacity-answer (a .costs) (a .nodes) middle (l .inv .0) in
+    let held : c .before .before .before .capacity2 .result .units ≡ capacity (a .costs) (a .nodes) middle = c .before .before .before .capacity2 .ensures in
     let enough : a .size ≤ capacity (a .costs) (a .nodes) middle = omega arith in
     let within : middle ≤ l .high = omega arith in
     (l .inv .0, omega arith, omega arith, earliest-same (a .costs) (answered-is (a .costs) (a .nodes) (l .inv .0) .0) (a .nodes) (a .size) middle (l .high) enough within ∙ l .inv .3, l .inv .4)
@@ -80,7 +80,7 @@ loop-again-2 c =
     let a = c .before .before .before .before .before .before .before .before .before .before .before .before .before .before .args in
     let l = c .before .before .before .before .before .before .before .loop in
     let middle = c .before .before .before .before .next-window .result in
-    let held : c .before .before .before .try-window2 .result .units ≡ capacity (a .costs) (a .nodes) middle = c .before .before .before .try-window2 .ensures ∙ capacity-answer (a .costs) (a .nodes) middle (l .inv .0) in
+    let held : c .before .before .before .capacity2 .result .units ≡ capacity (a .costs) (a .nodes) middle = c .before .before .before .capacity2 .ensures in
     let short : capacity (a .costs) (a .nodes) middle < a .size = omega arith in
     (l .inv .0, omega arith, omega arith, l .inv .3, λ v h. omega (arith, longer (a .costs) (answered-is (a .costs) (a .nodes) (l .inv .0) .0) (a .nodes) {w = v} {v = middle} (omega arith)))
 
@@ -100,13 +100,13 @@ earliest-finish-spec =
     μ-loop
     answerable-requires
     returns
-    try-window-requires
+    capacity-requires
     returns-2
     setups-requires
     loop-holds
     guess-requires
     next-window-requires
-    try-window-requires-2
+    capacity-requires-2
     next-turn-requires
     loop-less
     loop-again

@@ -13,13 +13,13 @@ first-share-requires c κs = search needs
 mul-less : tie.Need-mul-less
 mul-less c =
     let a = c .before .before .args in
-    let used : c .before .first-share .result * a .costs .send ≤ a .window - (a .costs .link + a .costs .node) = rw (c .before .first-share .ensures) (first-used (a .costs) (a .window)) in
+    let used : c .before .first-share .result * a .costs .send ≤ a .window - (a .costs .linksetup + a .costs .nodesetup) = rw (c .before .first-share .ensures) (first-used (a .costs) (a .window)) in
     omega arith
 
 add-less : tie.Need-add-less
 add-less c =
     let a = c .before .before .before .args in
-    let used : c .before .before .first-share .result * a .costs .send ≤ a .window - (a .costs .link + a .costs .node) = rw (c .before .before .first-share .ensures) (first-used (a .costs) (a .window)) in
+    let used : c .before .before .first-share .result * a .costs .send ≤ a .window - (a .costs .linksetup + a .costs .nodesetup) = rw (c .before .before .first-share .ensures) (first-used (a .costs) (a .window)) in
     omega arith
 
 less-requires : tie.Need-less-requires

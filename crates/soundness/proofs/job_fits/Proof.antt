@@ -1,6 +1,6 @@
 -- `soundness::job_fits` meets its contract. The loop's invariant: the chunks that are left, behind the free times so far, decide; the sends so far are
 -- bounded so that no sum wraps. The measure is the chunks that are left.
-use Rattle.soundness.specs.Tests.{Unswept, unswept-start, unswept-step, unswept-link, unswept-node, unswept-none}
+use Rattle.soundness.specs.Tests.{Fitting, fitting-start, fitting-step, fitting-link, fitting-node, fitting-none}
 use mathlib.Core.Bool.{false}
 use Rattle.walk.specs.declared.Busy.{Busy}
 use Rattle.walk.proofs.Sizes.{nodes-length, shares-length, free-length}
@@ -13,7 +13,7 @@ use Rattle.soundness.proofs.job_fits.Statement.{statement}
 use Rattle.soundness.proofs.job_fits.Tie as tie
 
 abbrev Inv-loop : tie.InvT-loop
-Inv-loop costs busy b link₀ free₀ from₀ i₀ link free from i = (i ≤ b .count) × (length free ≡ 64) × (from ≤ 1000000000000 + i * 4294968000000000) × Unswept costs busy b (record { link = link; free = free }) from i
+Inv-loop costs busy b link₀ free₀ from₀ i₀ link free from i = (i ≤ b .count) × (length free ≡ 64) × (from ≤ 1000000000000 + i * 4294968000000000) × Fitting costs busy b (record { link = link; free = free }) from i
 
 abbrev μ-loop : tie.MeasureT-loop
 μ-loop costs busy b link₀ free₀ from₀ i₀ link free from i = b .count - i
@@ -22,7 +22,7 @@ loop-holds : tie.Need-loop-holds Inv-loop μ-loop
 loop-holds c =
     let z = c .before .before in
     let a = z .args in
-    (omega arith, free-length (a .busy) (z .good .1 .0), z .pre .start, unswept-start (a .costs) (a .busy) (a .job .booking))
+    (omega arith, free-length (a .busy) (z .good .1 .0), z .pre .start, fitting-start (a .costs) (a .busy) (a .job .booking))
 
 element-copy-out-place-of : tie.Need-element-copy-out-place-of Inv-loop μ-loop
 element-copy-out-place-of c = search needs
@@ -40,7 +40,7 @@ returns c =
     let ks : a .job .booking .count ≤ length (a .job .booking .nodes) = omega (arith, calm .count, nodes-length (a .job) (z .good .1 .1 .0)) in
     let us : a .job .booking .count ≤ length (a .job .booking .shares) = omega (arith, calm .count, shares-length (a .job) (z .good .1 .1 .0)) in
     let now : Busy = record { link = l .link; free = l .free } in
-    unswept-link (a .costs) (a .busy) (a .job .booking) now (l .from) (l .i) (l .inv .3) h ks us (record { fits = false; busy = a .busy }) (a .job) refl refl (c .if1 .taken)
+    fitting-link (a .costs) (a .busy) (a .job .booking) now (l .from) (l .i) (l .inv .3) h ks us (record { fits = false; busy = a .busy }) (a .job) refl refl (c .if1 .taken)
 
 mul-if2 : tie.Need-mul-if2 Inv-loop μ-loop
 mul-if2 c =
@@ -64,7 +64,7 @@ returns-2 c =
     let ks : a .job .booking .count ≤ length (a .job .booking .nodes) = omega (arith, calm .count, nodes-length (a .job) (z .good .1 .1 .0)) in
     let us : a .job .booking .count ≤ length (a .job .booking .shares) = omega (arith, calm .count, shares-length (a .job) (z .good .1 .1 .0)) in
     let now : Busy = record { link = l .link; free = l .free } in
-    unswept-node (a .costs) (a .busy) (a .job .booking) now (l .from) (l .i) (l .inv .3) h ks us (record { fits = false; busy = a .busy }) (a .job) refl refl
+    fitting-node (a .costs) (a .busy) (a .job .booking) now (l .from) (l .i) (l .inv .3) h ks us (record { fits = false; busy = a .busy }) (a .job) refl refl
     (subst (λ (k : ℕ). a .job .booking .start < getD (l .free) k 0) (c .before .before .place-of .ensures) (c .if2 .taken))
 
 mul-wide32 : tie.Need-mul-wide32 Inv-loop μ-loop
@@ -110,7 +110,7 @@ loop-again c =
     let ks : a .job .booking .count ≤ length (a .job .booking .nodes) = omega (arith, calm .count, nodes-length (a .job) (z .good .1 .1 .0)) in
     let us : a .job .booking .count ≤ length (a .job .booking .shares) = omega (arith, calm .count, shares-length (a .job) (z .good .1 .1 .0)) in
     let now : Busy = record { link = l .link; free = l .free } in
-    let step = unswept-step (a .costs) (a .busy) (a .job .booking) now (l .from) (l .i) (l .inv .3) h ks us
+    let step = fitting-step (a .costs) (a .busy) (a .job .booking) now (l .from) (l .i) (l .inv .3) h ks us
     (c .before .before .before .before .before .before .place-of .result) (c .before .before .wide32 .result) (c .before .send-end .result) (c .chunk-end .result)
     (c .before .before .before .before .before .before .place-of .ensures) (c .before .before .wide32 .ensures .0) (c .before .send-end .ensures .0) (c .chunk-end .ensures)
     (c .before .before .before .before .before .if1 .left) (c .before .before .before .before .if2 .left) in
@@ -121,7 +121,7 @@ returns-3 c =
     let z = c .before .before .before .before in
     let a = z .args in
     let l = c .before .loop in
-    unswept-none (a .costs) (a .busy) (a .job) (record { link = l .link; free = l .free }) (l .from) (l .i) (l .inv .3) (omega arith)
+    fitting-none (a .costs) (a .busy) (a .job) (record { link = l .link; free = l .free }) (l .from) (l .i) (l .inv .3) (omega arith)
 
 pub job-fits-spec : {M : Type 1} → statement M
 job-fits-spec =

@@ -1,7 +1,7 @@
 -- `soundness::job_passes` meets its contract: a job within its limits has sums that do not wrap.
 use mathlib.Core.Path.{sym, _∙_}
 use borrow.Author.Tests.{not-true, not-false}
-use Rattle.soundness.specs.Tests.{calm-of, job-out, job-early, job-whole}
+use Rattle.soundness.specs.Tests.{no-overflow-of, job-out, job-early, job-whole}
 use borrow.Author.Needs.{needs}
 use Rattle.soundness.proofs.job_passes.Statement.{statement}
 use Rattle.soundness.proofs.job_passes.Tie as tie
@@ -22,7 +22,7 @@ returns-2 c =
 shares-kept-requires : tie.Need-shares-kept-requires
 shares-kept-requires c κs =
     let z = c .before .before .before .before .before .before in
-    calm-of (z .args .figures) (z .args .job) (z .pre) (sym (c .before .before .before .before .before .job-within .ensures) ∙ not-false _ (c .before .before .before .before .if1 .left))
+    no-overflow-of (z .args .figures) (z .args .job) (z .pre) (sym (c .before .before .before .before .before .job-within .ensures) ∙ not-false _ (c .before .before .before .before .if1 .left))
 
 returns-3 : tie.Need-returns-3
 returns-3 c =

@@ -9,7 +9,7 @@ use Rattle.lists.specs.Laws.{All}
 use Rattle.planner.specs.Passes.{passesOf}
 use Rattle.planner.specs.Clock.{shown}
 use Rattle.planner.specs.MoveKept.{shown-unsound, shown-unheld, shown-asked}
-use Rattle.planner.specs.Moving.{Able, waiting-few, by-start-able, ordered-front, able-few, shown-lines, show-stops, show-goes}
+use Rattle.planner.specs.Moving.{CanBegin, waiting-few, by-start-can-begin, ordered-front, can-begin-few, shown-lines, show-stops, show-goes}
 use Rattle.planner.proofs.Sizes.{farm-sized}
 use borrow.Author.Needs.{needs}
 use Rattle.planner.proofs.clock.showing.Statement.{statement}
@@ -42,8 +42,8 @@ line-count-requires c κs =
     let passed : passesOf f ≡ true = sym (c .before .before .before .passes .ensures) ∙ not-false _ (c .before .before .if1 .left) in
     let few = waiting-few f sized passed in
     let front = ordered-front f (c .by-start .result) sized few (c .by-start .ensures) in
-    let able = subst (All (Able f)) (sym front) (by-start-able f sized passed) in
-    (few, able-few f (take (f .waiting) (c .by-start .result)) able)
+    let ready = subst (All (CanBegin f)) (sym front) (by-start-can-begin f sized passed) in
+    (few, can-begin-few f (take (f .waiting) (c .by-start .result)) ready)
 
 stopped-requires-2 : tie.Need-stopped-requires-2
 stopped-requires-2 c κs = search needs
@@ -56,8 +56,8 @@ returns-2 c =
     let passed : passesOf f ≡ true = sym (c .before .before .before .before .before .before .passes .ensures) ∙ not-false _ (c .before .before .before .before .before .if1 .left) in
     let few = waiting-few f sized passed in
     let front = ordered-front f (c .before .before .before .by-start .result) sized few (c .before .before .before .by-start .ensures) in
-    let able = subst (All (Able f)) (sym front) (by-start-able f sized passed) in
-    let more : z .args .room < length (shown f) = omega (arith, shown-lines f _ front able, c .before .before .line-count .ensures .0, c .before .if2 .taken) in
+    let ready = subst (All (CanBegin f)) (sym front) (by-start-can-begin f sized passed) in
+    let more : z .args .room < length (shown f) = omega (arith, shown-lines f _ front ready, c .before .before .line-count .ensures .0, c .before .if2 .taken) in
     show-stops f (z .args .room) 9 _ (c .stopped2 .result) (c .stopped2 .ensures) (shown-unheld f (z .args .room) passed (lt-leb (length (shown f)) (z .args .room) more)) refl
 
 returns-3 : tie.Need-returns-3
@@ -68,9 +68,9 @@ returns-3 c =
     let passed : passesOf f ≡ true = sym (c .before .before .before .before .before .passes .ensures) ∙ not-false _ (c .before .before .before .before .if1 .left) in
     let few = waiting-few f sized passed in
     let front = ordered-front f (c .before .before .by-start .result) sized few (c .before .before .by-start .ensures) in
-    let able = subst (All (Able f)) (sym front) (by-start-able f sized passed) in
-    let fits : length (shown f) ≤ z .args .room = omega (arith, shown-lines f _ front able, c .before .line-count .ensures .0, c .if2 .left) in
-    show-goes f (z .args .room) _ _ few front able (shown-asked f (z .args .room) passed (le-leb (length (shown f)) (z .args .room) fits)) (c .before .line-count .ensures .0)
+    let ready = subst (All (CanBegin f)) (sym front) (by-start-can-begin f sized passed) in
+    let fits : length (shown f) ≤ z .args .room = omega (arith, shown-lines f _ front ready, c .before .line-count .ensures .0, c .if2 .left) in
+    show-goes f (z .args .room) _ _ few front ready (shown-asked f (z .args .room) passed (le-leb (length (shown f)) (z .args .room) fits)) (c .before .line-count .ensures .0)
 
 pub showing-spec : {M : Type 1} → statement M
 showing-spec =

@@ -8,7 +8,7 @@ use Rattle.planner.specs.Model.{waitingOf}
 use Rattle.planner.specs.Passes.{allDiffer}
 use Rattle.limits.specs.Tests.{both}
 use Rattle.soundness.specs.Model.{numbersOf}
-use Rattle.soundness.specs.Tests.{calm-all}
+use Rattle.soundness.specs.Tests.{no-overflow-all}
 use Rattle.planner.specs.Tests.{figuresOf, farmWithin, farm-usable, passes-out, passes-unsound, passes-twice, passes-rest}
 use borrow.Author.Needs.{needs}
 use Rattle.planner.proofs.passing.passes.Statement.{statement}
@@ -80,7 +80,7 @@ in-turn-requires c κs =
     let survey = c .before .before .before .before .before .before .before .before .before .surveyed in
     let passed : survey .result .passes ≡ true = not-false _ (c .before .before .before .before .before .before .before .if2 .left) in
     let u = farm-usable f within in
-    (u .1, calm-all (figuresOf f) (waitingOf f) (u .0) (sym (survey .ensures .tells) ∙ passed), survey .ensures .keys passed)
+    (u .1, no-overflow-all (figuresOf f) (waitingOf f) (u .0) (sym (survey .ensures .tells) ∙ passed), survey .ensures .keys passed)
 
 returns-4 : tie.Need-returns-4
 returns-4 c =
