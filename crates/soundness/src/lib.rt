@@ -9,7 +9,9 @@ ghost use Rattle.shares.specs.Model.{sendEnd};
 ghost use Rattle.limits.specs.Model.{CostsWithin};
 ghost use Rattle.booking.specs.Best.{units};
 ghost use Rattle.walk.specs.Model.{keysBy, startOf, byStart, spansOfAll, inOrder, fitAll};
-ghost use Rattle.soundness.specs.Model.{noneOf, allDiffer, nodesKnown, sharesKept, headWithin, jobPasses, allPass, Usable, NoOverflow, Inside, Surveys, FitResult};
+ghost use Rattle.soundness.specs.Model.{noneOf, allDiffer, nodesKnown, sharesKept, jobWithin, jobPasses, waitingPass};
+ghost use Rattle.soundness.specs.Sound.{Usable};
+ghost use Rattle.soundness.specs.Steps.{NoOverflow, Inside, Surveys, FitResult};
 use keys::Key;
 use limits::and;
 use limits::at_most;
@@ -30,14 +32,14 @@ pub struct Figures {
 }
 
 // Whether each job passes by itself and, if so, the jobs' numbers and their keys by start.
-pub struct Survey {
+struct Survey {
     pub passes: bool,
     pub numbers: [u64; 128],
     pub keys: [Key; 128],
 }
 
 // Whether a job's chunks fit behind what came before them, and the free times after them.
-pub struct Fit {
+struct Fit {
     pub fits: bool,
     pub busy: Busy,
 }
@@ -78,7 +80,7 @@ fn nodes_known(nodes: [u8; 64], count: usize, limit: usize) -> bool
 }
 
 fn job_within(figures: Figures, job: Job) -> bool
-    ensures { λ r. ⌜ r ≡ headWithin figures job ⌝ }
+    ensures { λ r. ⌜ r ≡ jobWithin figures job ⌝ }
 {
     let b = job.booking;
     let nodes = b.nodes;
@@ -124,7 +126,7 @@ fn chunk_end(costs: Costs, sent: u64, units: u64) -> u64
 // Whether the shares are at least 1 each and add up to the size, and each chunk finishes by the deadline.
 fn shares_kept(costs: Costs, job: Job) -> bool
     requires { ⌜ NoOverflow costs job ⌝ }
-    ensures { λ r. ⌜ r ≡ sharesKept costs (job .size) (job .deadline) 0 (job .booking .start) (units (job .booking)) ⌝ }
+    ensures { λ r. ⌜ r ≡ sharesKept costs (job .size) (job .deadline) (job .booking .start) (units (job .booking)) ⌝ }
 {
     let b = job.booking;
     let mut total: u64 = 0;
@@ -161,7 +163,7 @@ fn job_passes(figures: Figures, job: Job) -> bool
 }
 
 // Each of the first `count` jobs by itself, and on the way their numbers and their keys by start: the jobs are gone through once.
-pub fn surveyed(figures: Figures, jobs: [Job; 128], count: usize) -> Survey
+fn surveyed(figures: Figures, jobs: [Job; 128], count: usize) -> Survey
     requires { ⌜ Usable figures × (count ≤ 128) ⌝ }
     ensures { λ r. ⌜ Surveys figures (take count jobs) count r ⌝ }
 {
@@ -213,7 +215,7 @@ fn none_of(x: u64, xs: &[u64]) -> bool
     true
 }
 
-pub fn all_differ(xs: &[u64]) -> bool
+fn all_differ(xs: &[u64]) -> bool
     ensures { λ r. ⌜ r ≡ allDiffer (now (xs .entry)) ⌝ }
 {
     let n = xs.len();
@@ -293,10 +295,29 @@ fn jobs_fit(costs: Costs, busy: Busy, jobs: [Job; 128], keys: [Key; 128], count:
 }
 
 // The jobs by their starts, one after the other. They mostly stand in that order already.
-pub fn in_turn(costs: Costs, busy: Busy, jobs: [Job; 128], keys: [Key; 128], count: usize) -> bool
+fn in_turn(costs: Costs, busy: Busy, jobs: [Job; 128], keys: [Key; 128], count: usize) -> bool
     requires { ⌜ (count ≤ 128) × All (NoOverflow costs) (take count jobs) × (take count keys ≡ keysBy startOf 0 (take count jobs)) ⌝ }
     ensures { λ r. ⌜ r ≡ fitAll busy (spansOfAll costs (byStart (take count jobs))) ⌝ }
 {
     let order = keys::sorted(keys, count);
     jobs_fit(costs, busy, jobs, order, count)
+}
+
+// ---- The answer
+
+// Question 11 asked of the first `count` jobs: each by itself, their numbers, and all of them in order of start.
+pub fn waiting_pass(figures: Figures, busy: Busy, jobs: [Job; 128], count: usize) -> bool
+    requires { ⌜ Usable figures × (count ≤ 128) ⌝ }
+    ensures { λ r. ⌜ r ≡ waitingPass figures busy (take count jobs) ⌝ }
+{
+    let survey = surveyed(figures, jobs, count);
+    if !survey.passes {
+        return false;
+    }
+    let numbers = survey.numbers;
+    if !all_differ(&numbers[0..count]) {
+        return false;
+    }
+    let keys = survey.keys;
+    in_turn(figures.costs, busy, jobs, keys, count)
 }

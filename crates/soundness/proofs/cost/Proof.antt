@@ -1,5 +1,5 @@
 -- `soundness::cost` meets its contract: a product of the largest factors still fits.
-use Rattle.soundness.specs.Tests.{product-small}
+use Rattle.soundness.specs.Steps.{product-small}
 use native.Mathlib.Omega.{arith}
 use Rattle.soundness.proofs.cost.Statement.{statement}
 use Rattle.soundness.proofs.cost.Tie as tie

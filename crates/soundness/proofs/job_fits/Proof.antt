@@ -1,6 +1,6 @@
 -- `soundness::job_fits` meets its contract. The loop's invariant: the chunks that are left, behind the free times so far, decide; the sends so far are
 -- bounded so that no sum wraps. The measure is the chunks that are left.
-use Rattle.soundness.specs.Tests.{Fitting, fitting-start, fitting-step, fitting-link, fitting-node, fitting-none}
+use Rattle.soundness.specs.Steps.{Fitting, fitting-start, fitting-step, fitting-link, fitting-node, fitting-none}
 use mathlib.Core.Bool.{false}
 use Rattle.walk.specs.declared.Busy.{Busy}
 use Rattle.walk.proofs.Sizes.{nodes-length, shares-length, free-length}

@@ -7,7 +7,7 @@ use lib.ListN.{length, take}
 use lib.Seq.{slice}
 use borrow.Author.Tests.{not-true, not-false}
 use Rattle.walk.specs.Model.{spansOfAll, inOrder, fitAll}
-use Rattle.soundness.specs.Tests.{key-inside, key-no-overflow, turn-more, turn-stop, turn-none}
+use Rattle.soundness.specs.Steps.{key-inside, key-no-overflow, turn-more, turn-stop, turn-none}
 use borrow.Author.Needs.{needs}
 use Rattle.soundness.proofs.jobs_fit.Statement.{statement}
 use Rattle.soundness.proofs.jobs_fit.Tie as tie

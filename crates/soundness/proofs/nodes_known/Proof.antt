@@ -6,7 +6,7 @@ use lib.ListN.{length, getD, take}
 use lib.Seq.{slice}
 use Rattle.limits.specs.Tests.{take-least}
 use Rattle.soundness.specs.Model.{nodesKnown}
-use Rattle.soundness.specs.Tests.{known-more, known-low, known-high, known-none}
+use Rattle.soundness.specs.Steps.{known-more, known-low, known-high, known-none}
 use borrow.Author.Needs.{needs}
 use Rattle.soundness.proofs.nodes_known.Statement.{statement}
 use Rattle.soundness.proofs.nodes_known.Tie as tie

@@ -9,7 +9,7 @@ use lib.ListN.{length}
 use lib.Seq.{slice}
 use Rattle.booking.specs.Best.{units}
 use Rattle.soundness.specs.Model.{sharesKept}
-use Rattle.soundness.specs.Tests.{shares-step, shares-small, shares-over, shares-none}
+use Rattle.soundness.specs.Steps.{keptBehind, kept-start, shares-step, shares-small, shares-over, shares-none}
 use Rattle.walk.proofs.Sizes.{shares-length}
 use borrow.Author.Needs.{needs}
 use Rattle.soundness.proofs.shares_kept.Statement.{statement}
@@ -18,13 +18,15 @@ use Rattle.soundness.proofs.shares_kept.Tie as tie
 abbrev Inv-loop : tie.InvT-loop
 Inv-loop costs job b total₀ from₀ i₀ total from i =
     (i ≤ b .count) × (total ≤ i * 4294967296) × (from ≤ 1000000000000 + i * 4294968000000000)
-    × (sharesKept costs (job .size) (job .deadline) 0 (b .start) (units b) ≡ sharesKept costs (job .size) (job .deadline) total from (slice i (b .count) (b .shares)))
+    × (sharesKept costs (job .size) (job .deadline) (b .start) (units b) ≡ keptBehind costs (job .size) (job .deadline) total from (slice i (b .count) (b .shares)))
 
 abbrev μ-loop : tie.MeasureT-loop
 μ-loop costs job b total₀ from₀ i₀ total from i = b .count - i
 
 loop-holds : tie.Need-loop-holds Inv-loop μ-loop
-loop-holds c = search needs
+loop-holds c =
+    let a = c .before .args in
+    (omega arith, omega arith, omega (arith, c .before .pre .start), kept-start (a .costs) (a .job .size) (a .job .deadline) (a .job .booking .start) (units (a .job .booking)))
 
 mul-wide32 : tie.Need-mul-wide32 Inv-loop μ-loop
 mul-wide32 c = search needs
@@ -91,7 +93,7 @@ returns-3 c =
     let all : l .i ≡ a .job .booking .count = omega arith in
     let test : c .and .result ≡ eqb (l .total) (a .job .size) && leb (l .from) (a .job .deadline) =
     c .and .ensures ∙ ap (λ (k : ℕ). eqb (l .total) k && leb (l .from) (a .job .deadline)) (c .before .before .wide322 .ensures .0) in
-    test ∙ sym (l .inv .3 ∙ ap (λ (k : ℕ). sharesKept (a .costs) (a .job .size) (a .job .deadline) (l .total) (l .from) (slice k (a .job .booking .count) (a .job .booking .shares))) all ∙ shares-none (a .costs) (a .job .size) (a .job .deadline) (l .total) (l .from) (a .job .booking .shares) (a .job .booking .count))
+    test ∙ sym (l .inv .3 ∙ ap (λ (k : ℕ). keptBehind (a .costs) (a .job .size) (a .job .deadline) (l .total) (l .from) (slice k (a .job .booking .count) (a .job .booking .shares))) all ∙ shares-none (a .costs) (a .job .size) (a .job .deadline) (l .total) (l .from) (a .job .booking .shares) (a .job .booking .count))
 
 pub shares-kept-spec : {M : Type 1} → statement M
 shares-kept-spec =

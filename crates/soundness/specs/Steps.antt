@@ -1,4 +1,4 @@
--- What each turn of the loops keeps, and that no sum wraps.
+-- What the functions promise each other: what each turn of the loops keeps, and that no sum wraps.
 use Prim.Native.Nat.{ℕ, suc, max, _+_, _*_, _-_, _≤_, _<_}
 use mathlib.Core.Path.{_≡_, refl, ap, subst, _∙_}
 use mathlib.Core.List.{List, [], _∷_, _++_, map}
@@ -10,11 +10,11 @@ use borrow.Author.Tests.{leb-true, leb-false, le-leb, lt-leb, eq-eqb, ne-eqb}
 use lib.Dec.{leb, eqb}
 use lib.ListN.{length, getD, take, drop, set, length-drop}
 use lib.Seq.{slice, slice-cons, slice-empty, take-all, take-suc, take-suc-set, drop-cons, drop-length, getD-take, length-take-le}
-use Rattle.lists.specs.Laws.{All, Differ, all-nth}
+use Rattle.lists.specs.Laws.{All, all-map, all-nth}
 use Rattle.shares.specs.declared.Costs.{Costs}
 use Rattle.shares.specs.Model.{sendEnd, chunkFinish, finish, sum}
-use Rattle.limits.specs.Model.{between, allAtMost, allAtLeast}
-use Rattle.limits.specs.Says.{Says, says-not-eq, says-both}
+use Rattle.limits.specs.Model.{allAtMost, allAtLeast, CostsWithin}
+use Rattle.limits.specs.Says.{says-at-most}
 use Rattle.limits.specs.Tests.{and-both, at-most-at}
 use Rattle.keys.specs.declared.Key.{Key}
 use Rattle.keys.specs.Model.{noKey, sortKeys, sortedFront}
@@ -27,7 +27,34 @@ use Rattle.walk.specs.Model.{greatest, noJob, chunksFrom, Span, spansOf, spansO
 use Rattle.walk.specs.Rows.{order-is, order-within}
 use Rattle.soundness.specs.declared.Figures.{Figures}
 use Rattle.soundness.specs.declared.Fit.{Fit}
-use Rattle.soundness.specs.Model.{noneOf, allDiffer, nodesKnown, sharesKept, offerWithin, headFront, headWithin, jobPasses, allPass, numbersOf, Usable, NoOverflow, Inside, FitResult}
+use Rattle.soundness.specs.declared.Survey.{Survey}
+use Rattle.soundness.specs.Model.{noneOf, allDiffer, numbersOf, nodesKnown, jobWithin, sharesKept, jobKept, jobPasses, jobsPass, waitingPass}
+use Rattle.soundness.specs.Sound.{Usable, says-job-within}
+
+-- ---- Promises
+
+-- a job whose sends and finishes do not wrap, and whose nodes have free times
+pub record NoOverflow (c : Costs) (j : Job) : Type 0 where
+  pub costs : CostsWithin c
+  pub start : j .booking .start ≤ greatest
+  pub count : j .booking .count ≤ 64
+  pub nodes : (i : ℕ) → i < j .booking .count → getD (j .booking .nodes) i 0 ≤ 64
+
+-- what a survey of the first n jobs comes to
+pub record Surveys (g : Figures) (js : List Job) (n : ℕ) (r : Survey) : Type 0 where
+  pub tells : r .passes ≡ jobsPass g js
+  pub numbers : r .passes ≡ true → take n (r .numbers) ≡ numbersOf js
+  pub keys : r .passes ≡ true → take n (r .keys) ≡ keysBy startOf 0 js
+  pub many : length (r .numbers) ≡ 128
+
+abbrev pub Inside : ℕ → Key → Type 0
+Inside n k = k .place < n
+
+-- r says of a job's chunks behind b whether they fit, and what they leave to all that follow
+pub record FitResult (c : Costs) (b : Busy) (j : Job) (r : Fit) : Type 0 where
+  pub rest : (xs : List Span) → fitAll b (spansOf c j ++ xs) ≡ r .fits && fitAll (r .busy) xs
+
+-- ---- Sums
 
 -- 2^32 - 1 units at a million ticks each
 pub product-small : (u e : ℕ) → u < 4294967296 → e ≤ 1000000 → u * e ≤ 4294967295000000
@@ -57,6 +84,14 @@ known-none b ks n = rw (slice-empty n ks)
 
 -- ---- The shares of a booking
 
+-- shares xs sent from t on, behind s units: each at least 1, z units in all, and finished by d
+unfoldable pub keptBehind : Costs → ℕ → ℕ → ℕ → ℕ → List ℕ → Bool
+keptBehind c z d s t xs = allAtLeast 1 xs && eqb (s + sum xs) z && leb (finish c t xs) d
+
+pub kept-start : (c : Costs) (z d t : ℕ) (xs : List ℕ) → sharesKept c z d t xs ≡ keptBehind c z d 0 t xs
+unfolding sharesKept keptBehind
+kept-start c z d t xs = let e : 0 + sum xs ≡ sum xs = omega arith in rw e
+
 max-leb : (a b d : ℕ) → a ≤ d → leb (max a b) d ≡ leb b d
 max-leb a b d h = go (leb b d) refl
   where
@@ -65,18 +100,18 @@ max-leb a b d h = go (leb b d) refl
     go false e = lt-leb (max a b) d (omega (arith, leb-false b d e))
 
 module _ (c : Costs) (z d s t : ℕ) (a : ℕ) (xs : List ℕ) where
-  kept-more : 1 ≤ a → chunkFinish c t a ≤ d → sharesKept c z d s t (a ∷ xs) ≡ sharesKept c z d (s + a) (sendEnd c t a) xs
-  unfolding sharesKept allAtLeast sum finish
+  kept-more : 1 ≤ a → chunkFinish c t a ≤ d → keptBehind c z d s t (a ∷ xs) ≡ keptBehind c z d (s + a) (sendEnd c t a) xs
+  unfolding keptBehind allAtLeast sum finish
   kept-more h l =
       let e : s + (a + sum xs) ≡ s + a + sum xs = omega arith in
       rw (le-leb 1 a h, e, max-leb (chunkFinish c t a) (finish c (sendEnd c t a) xs) d l)
 
-  kept-small : a < 1 → sharesKept c z d s t (a ∷ xs) ≡ false
-  unfolding sharesKept allAtLeast
+  kept-small : a < 1 → keptBehind c z d s t (a ∷ xs) ≡ false
+  unfolding keptBehind allAtLeast
   kept-small h = rw (lt-leb 1 a h)
 
-  kept-late : d < chunkFinish c t a → sharesKept c z d s t (a ∷ xs) ≡ false
-  unfolding sharesKept finish
+  kept-late : d < chunkFinish c t a → keptBehind c z d s t (a ∷ xs) ≡ false
+  unfolding keptBehind finish
   kept-late h =
       let e : leb (max (chunkFinish c t a) (finish c (sendEnd c t a) xs)) d ≡ false = lt-leb _ d (omega arith) in
       rw (e, and-false)
@@ -84,79 +119,76 @@ module _ (c : Costs) (z d s t : ℕ) (a : ℕ) (xs : List ℕ) where
 -- The same of what is left of an array.
 module _ (c : Costs) (z d s t : ℕ) (us : List ℕ) (i n : ℕ) (h : i < n) (k : n ≤ length us) where
   pub shares-more : 1 ≤ getD us i 0 → chunkFinish c t (getD us i 0) ≤ d
-      → sharesKept c z d s t (slice i n us) ≡ sharesKept c z d (s + getD us i 0) (sendEnd c t (getD us i 0)) (slice (i + 1) n us)
+      → keptBehind c z d s t (slice i n us) ≡ keptBehind c z d (s + getD us i 0) (sendEnd c t (getD us i 0)) (slice (i + 1) n us)
   shares-more l m = rw (add-one, slice-cons i n us 0 h k) (kept-more c z d s t (getD us i 0) (slice (suc i) n us) l m)
 
-  pub shares-small : getD us i 0 < 1 → sharesKept c z d s t (slice i n us) ≡ false
+  pub shares-small : getD us i 0 < 1 → keptBehind c z d s t (slice i n us) ≡ false
   shares-small l = rw (slice-cons i n us 0 h k) (kept-small c z d s t (getD us i 0) (slice (suc i) n us) l)
 
-  pub shares-late : d < chunkFinish c t (getD us i 0) → sharesKept c z d s t (slice i n us) ≡ false
+  pub shares-late : d < chunkFinish c t (getD us i 0) → keptBehind c z d s t (slice i n us) ≡ false
   shares-late l = rw (slice-cons i n us 0 h k) (kept-late c z d s t (getD us i 0) (slice (suc i) n us) l)
 
   -- The same with what the code works out.
   pub shares-step : (a sent ends : ℕ) → a ≡ getD us i 0 → sent ≡ sendEnd c t a → ends ≡ sent + (c .nodesetup + a * c .compute) → 1 ≤ a → ends ≤ d
-      → sharesKept c z d s t (slice i n us) ≡ sharesKept c z d (s + a) sent (slice (i + 1) n us)
+      → keptBehind c z d s t (slice i n us) ≡ keptBehind c z d (s + a) sent (slice (i + 1) n us)
   shares-step a sent ends e f g l m = rw (f, e) (shares-more (rw e at l) (rw (g, f, e) at m))
 
   pub shares-over : (a sent ends : ℕ) → a ≡ getD us i 0 → sent ≡ sendEnd c t a → ends ≡ sent + (c .nodesetup + a * c .compute) → d < ends
-      → sharesKept c z d s t (slice i n us) ≡ false
+      → keptBehind c z d s t (slice i n us) ≡ false
   shares-over a sent ends e f g m = shares-late (rw (g, f, e) at m)
 
-pub shares-none : (c : Costs) (z d s t : ℕ) (us : List ℕ) (n : ℕ) → sharesKept c z d s t (slice n n us) ≡ eqb s z && leb t d
-unfolding sharesKept allAtLeast sum finish
+pub shares-none : (c : Costs) (z d s t : ℕ) (us : List ℕ) (n : ℕ) → keptBehind c z d s t (slice n n us) ≡ eqb s z && leb t d
+unfolding keptBehind allAtLeast sum finish
 shares-none c z d s t us n = let e : s + 0 ≡ s = omega arith in rw (slice-empty n us, e)
 
 -- ---- The jobs
 
 -- A job within its limits has sums that do not wrap.
-pub no-overflow-of : (g : Figures) (j : Job) → Usable g → headWithin g j ≡ true → NoOverflow (g .costs) j
-unfolding headWithin
+pub no-overflow-of : (g : Figures) (j : Job) → Usable g → jobWithin g j ≡ true → NoOverflow (g .costs) j
 no-overflow-of g j u e =
-    let p = and-both (headFront g j) (nodesKnown (g .nodes) (chosen (j .booking))) e in
-    let q = and-both (offerWithin g j && leb (j .booking .start) greatest) (between 1 (j .booking .count) 64) (p .0) in
-    let r = and-both (offerWithin g j) (leb (j .booking .start) greatest) (q .0) in
-    let low : allAtMost (g .nodes) (chosen (j .booking)) ≡ true = and-both (allAtLeast 1 (chosen (j .booking))) _ (p .1) .1 in
+    let w = says-job-within g j .yields e in
+    let low : allAtMost (g .nodes) (chosen (j .booking)) ≡ true = says-at-most (g .nodes) (chosen (j .booking)) .follows (all-map (λ k b. b .1) (chosen (j .booking)) (w .nodes)) in
     record {
       costs = u .costs;
-      start = leb-true _ _ (r .1);
-      count = leb-true _ _ (and-both (leb 1 (j .booking .count)) _ (q .1) .1);
+      start = w .start;
+      count = w .count .1;
       nodes = λ i h. omega (arith, u .nodes, at-most-at (g .nodes) (chosen (j .booking)) i low, getD-take (j .booking .count) (j .booking .nodes) i 0 h);
     }
 
 -- A job's test ends at the first part that fails.
-pub job-out : (g : Figures) (j : Job) → headWithin g j ≡ false → jobPasses g j ≡ false
+pub job-out : (g : Figures) (j : Job) → jobWithin g j ≡ false → jobPasses g j ≡ false
 unfolding jobPasses
 job-out g j e = rw e
 
 pub job-early : (g : Figures) (j : Job) → j .booking .start < g .clock → jobPasses g j ≡ false
-unfolding jobPasses
+unfolding jobPasses jobKept
 job-early g j h = rw (lt-leb (g .clock) (j .booking .start) h, and-false)
 
-pub job-whole : (g : Figures) (j : Job) → headWithin g j ≡ true → g .clock ≤ j .booking .start
-    → jobPasses g j ≡ sharesKept (g .costs) (j .size) (j .deadline) 0 (j .booking .start) (units (j .booking))
-unfolding jobPasses
+pub job-whole : (g : Figures) (j : Job) → jobWithin g j ≡ true → g .clock ≤ j .booking .start
+    → jobPasses g j ≡ sharesKept (g .costs) (j .size) (j .deadline) (j .booking .start) (units (j .booking))
+unfolding jobPasses jobKept
 job-whole g j e h = rw (e, le-leb (g .clock) (j .booking .start) h)
 
-pub no-overflow-all : (g : Figures) (js : List Job) → Usable g → allPass g js ≡ true → All (NoOverflow (g .costs)) js
-unfolding allPass jobPasses
+pub no-overflow-all : (g : Figures) (js : List Job) → Usable g → jobsPass g js ≡ true → All (NoOverflow (g .costs)) js
+unfolding jobsPass jobPasses
 no-overflow-all g [] u e = tt
 no-overflow-all g (j ∷ js) u e =
-    let p = and-both (headWithin g j && _) (allPass g js) e in
-    (no-overflow-of g j u (and-both (headWithin g j) _ (p .0) .0), no-overflow-all g js u (p .1))
+    let p = and-both (jobWithin g j && jobKept g j) (jobsPass g js) e in
+    (no-overflow-of g j u (and-both (jobWithin g j) (jobKept g j) (p .0) .0), no-overflow-all g js u (p .1))
 
 module _ (g : Figures) (jobs : List Job) (i n : ℕ) (h : i < n) (k : n ≤ length jobs) where
-  pass-cons : allPass g (slice i n jobs) ≡ jobPasses g (getD jobs i noJob) && allPass g (slice (i + 1) n jobs)
-  unfolding allPass
+  pass-cons : jobsPass g (slice i n jobs) ≡ jobPasses g (getD jobs i noJob) && jobsPass g (slice (i + 1) n jobs)
+  unfolding jobsPass
   pass-cons = rw (add-one, slice-cons i n jobs noJob h k)
 
-  pub pass-more : jobPasses g (getD jobs i noJob) ≡ true → allPass g (slice i n jobs) ≡ allPass g (slice (i + 1) n jobs)
+  pub pass-more : jobPasses g (getD jobs i noJob) ≡ true → jobsPass g (slice i n jobs) ≡ jobsPass g (slice (i + 1) n jobs)
   pass-more e = pass-cons ∙ rw e
 
-  pub pass-stop : jobPasses g (getD jobs i noJob) ≡ false → allPass g (slice i n jobs) ≡ false
+  pub pass-stop : jobPasses g (getD jobs i noJob) ≡ false → jobsPass g (slice i n jobs) ≡ false
   pass-stop e = pass-cons ∙ rw e
 
-pub pass-none : (g : Figures) (jobs : List Job) (n : ℕ) → allPass g (slice n n jobs) ≡ true
-unfolding allPass
+pub pass-none : (g : Figures) (jobs : List Job) (n : ℕ) → jobsPass g (slice n n jobs) ≡ true
+unfolding jobsPass
 pass-none g jobs n = rw (slice-empty n jobs)
 
 -- ---- The numbers
@@ -204,17 +236,6 @@ part-rest xs k = take-all (length xs - k) (drop k xs) (omega (arith, length-drop
 pub differ-none : (xs : List ℕ) → allDiffer (drop (length xs) xs) ≡ true
 unfolding allDiffer
 differ-none xs = rw (drop-length xs)
-
-says-none-of : (x : ℕ) (ys : List ℕ) → Says (noneOf x ys) (All (λ (y : ℕ). x ≡ y → ⊥) ys)
-unfolding noneOf
-says-none-of x [] = record { yields = λ e. tt; follows = λ h. refl }
-says-none-of x (y ∷ ys) = says-both (says-not-eq x y) (says-none-of x ys)
-
--- The test that all differ says so of each two.
-pub says-differ : (xs : List ℕ) → Says (allDiffer xs) (Differ xs)
-unfolding allDiffer
-says-differ [] = record { yields = λ e. tt; follows = λ h. refl }
-says-differ (x ∷ xs) = says-both (says-none-of x xs) (says-differ xs)
 
 -- ---- The chunks of a job behind the free times
 
@@ -317,3 +338,19 @@ module _ (c : Costs) (b : Busy) (jobs : List Job) (keys : List Key) (i n : ℕ) 
 pub turn-none : (c : Costs) (b : Busy) (js : List Job) (keys : List Key) (n : ℕ) → fitAll b (spansOfAll c (inOrder js (slice n n keys))) ≡ true
 unfolding fitAll spansOfAll
 turn-none c b js keys n = rw (slice-empty n keys)
+
+-- ---- The answer
+
+-- The test ends at the first part that fails.
+pub waiting-unsound : (g : Figures) (b : Busy) (js : List Job) → jobsPass g js ≡ false → waitingPass g b js ≡ false
+unfolding waitingPass
+waiting-unsound g b js e = rw e
+
+pub waiting-twice : (g : Figures) (b : Busy) (js : List Job) → allDiffer (numbersOf js) ≡ false → waitingPass g b js ≡ false
+unfolding waitingPass
+waiting-twice g b js e = rw (e, and-false)
+
+pub waiting-rest : (g : Figures) (b : Busy) (js : List Job) → jobsPass g js ≡ true → allDiffer (numbersOf js) ≡ true
+    → waitingPass g b js ≡ fitAll b (spansOfAll (g .costs) (byStart js))
+unfolding waitingPass
+waiting-rest g b js e h = rw (e, h)
