@@ -6,7 +6,7 @@ ghost use lib.ListN.{length, getD, take, replicate};
 ghost use Rattle.shares.specs.Model.{finish};
 ghost use Rattle.booking.specs.Best.{units};
 ghost use Rattle.walk.specs.Walk.{Sends};
-ghost use Rattle.planner.specs.Offer.{Offered, PlanWith, Accepting, Accepts};
+ghost use Rattle.planner.specs.CallsSteps.{Offered, PlanWith, Accepting, Accepts};
 ghost use Rattle.booking.specs.Model.{bookingOf};
 ghost use Rattle.planner.specs.Model.{emptyJob};
 ghost use Rattle.planner.specs.Calls.{said, granted, Replies, unopened, openSaid, openFarm, accountSaid, ofNumber, offerSaid, offerFarm};

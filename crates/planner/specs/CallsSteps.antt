@@ -1,0 +1,245 @@
+-- Opening, offers and accounts, question by question: what the functions of src/calls.rt need and promise each other.
+use mathlib.Core.Path.{_≡_, refl, ap, sym, subst, _∙_}
+use mathlib.Core.List.{List, [], _∷_, _++_}
+use mathlib.Core.Bool.{Bool, true, false, cond, _&&_}
+use Prim.Native.Nat.{ℕ, zero, suc, _+_, _-_, _≤_, _<_}
+use native.Mathlib.Omega.{arith}
+use native.Mathlib.Numerals.{add-one}
+use borrow.Author.Tests.{ltb-true, leb-true}
+use lib.Dec.{leb, ltb, eqb}
+use lib.ListN.{length, getD, take, drop, set, replicate, length-append}
+use lib.Seq.{take-suc-set, take-suc, drop-set-lt, drop-drop, drop-cons, take-at, drop-at, length-take-le}
+use Rattle.lists.specs.Laws.{All, all-join, all-map, perm-all, perm-length}
+use Rattle.shares.specs.declared.Costs.{Costs}
+use Rattle.shares.specs.Model.{finish}
+use Rattle.shares.specs.Answers.{answered}
+use Rattle.limits.specs.Tests.{and-both}
+use Rattle.booking.specs.Model.{bookingOf}
+use Rattle.walk.specs.declared.Job.{Job}
+use Rattle.walk.specs.Order.{by-deadline-perm}
+use Rattle.walk.specs.Walk.{Sends, Ready}
+use Rattle.walk.specs.Booked.{walk-best}
+use Rattle.walk.specs.Plan.{plan-length, plan-sends}
+use Rattle.planner.specs.declared.Farm.{Farm}
+use Rattle.planner.specs.declared.Reply.{Reply}
+use Rattle.planner.specs.declared.Question.{Question}
+use Rattle.planner.specs.declared.Answer.{Answer}
+use Rattle.planner.specs.declared.Answer.the-variants as answer
+use Rattle.planner.specs.Model.{greatest, between, costsWithin, emptyJob, noJob, waitingOf, termsOf, busyOf, byDeadline, plan, booksAll}
+use Rattle.planner.specs.Passes.{passesOf}
+use Rattle.planner.specs.PassesSteps.{passes-within, passes-jobs}
+use Rattle.planner.specs.Calls.{Said, said, granted, refused, numberOf, Replies, unopened, openedWith, showsWithin, openSaid, openFarm, heldBy, allowanceOf, accountSaid, planned, accepts, nextFarm, withPlan, ofNumber, yesOf, offerAsked, offerSaid, offerFarm}
+
+-- ---- Opening
+
+-- A copy, one number further.
+pub copy-next : (n i : ℕ) (xs ys : List ℕ) → i < length xs → i < length ys → take i ys ≡ take i xs → drop i ys ≡ replicate (n - i) 0 → i < n
+    → (take (i + 1) (set ys i (getD xs i 0)) ≡ take (i + 1) xs) × (drop (i + 1) (set ys i (getD xs i 0)) ≡ replicate (n - (i + 1)) 0)
+copy-next n i xs ys h k p q l =
+    let e : n - i ≡ suc (n - (i + 1)) = omega arith in (
+      rw (add-one i, take-suc-set ys i (getD xs i 0) k, take-suc xs i 0 h, p),
+      rw (drop-set-lt (i + 1) ys i (getD xs i 0) (omega arith), ← drop-drop 1 i ys, q, e),
+    )
+
+module _ (n : ℕ) (c : Costs) (al : List ℕ) (r : Reply) where
+  -- Replies to an opening.
+  Opens : Type 0
+  Opens = Replies r (openSaid n c al) (openFarm n c al)
+
+  not-opened : (q : Question) → r ≡ record { answer = answer.No q; farm = unopened } → openSaid n c al ≡ refused (numberOf q) → openFarm n c al ≡ unopened
+      → Replies r (openSaid n c al) (openFarm n c al)
+  not-opened q e s f = record { says = ap (λ (x : Reply). said (x .answer)) e ∙ sym s; hands = ap (λ (x : Reply). x .farm) e ∙ sym f }
+
+  -- Refused with 1: the nodes.
+  pub no-nodes : (q : Question) → numberOf q ≡ 1 → r ≡ record { answer = answer.No q; farm = unopened } → between 1 n 64 ≡ false → Replies r (openSaid n c al) (openFarm n c al)
+  unfolding openSaid openFarm
+  no-nodes q m e a = not-opened q e (rw (a, m)) (rw a)
+
+  -- Refused with 2: the costs.
+  pub no-costs : (q : Question) → numberOf q ≡ 2 → r ≡ record { answer = answer.No q; farm = unopened } → between 1 n 64 ≡ true → costsWithin c ≡ false
+      → Replies r (openSaid n c al) (openFarm n c al)
+  unfolding openSaid openFarm
+  no-costs q m e a b = not-opened q e (rw (a, b, m)) (rw (a, b))
+
+  -- Refused with 3: the shows.
+  pub no-shows : (q : Question) → numberOf q ≡ 3 → r ≡ record { answer = answer.No q; farm = unopened } → between 1 n 64 ≡ true → costsWithin c ≡ true → showsWithin al ≡ false
+      → Replies r (openSaid n c al) (openFarm n c al)
+  unfolding openSaid openFarm
+  no-shows q m e a b d = not-opened q e (rw (a, b, d, m)) (rw (a, b, d))
+
+  -- Granted.
+  pub opens : r ≡ record { answer = answer.Open n (length al); farm = openedWith n c al } → between 1 n 64 ≡ true → costsWithin c ≡ true → showsWithin al ≡ true
+      → Replies r (openSaid n c al) (openFarm n c al)
+  unfolding openSaid openFarm
+  opens e a b d =
+      record { says = ap (λ (x : Reply). said (x .answer)) e ∙ rw (a, b, d); hands = ap (λ (x : Reply). x .farm) e ∙ rw (a, b, d) }
+
+-- ---- Accounts
+
+-- An account is refused with 11, then with 4, and granted otherwise.
+pub account-unsound : (f : Farm) (s : ℕ) → passesOf f ≡ false → accountSaid f s ≡ refused 11
+unfolding accountSaid
+account-unsound f s e = rw e
+
+pub account-unknown : (f : Farm) (s : ℕ) → passesOf f ≡ true → between 1 s (f .shows) ≡ false → accountSaid f s ≡ refused 4
+unfolding accountSaid
+account-unknown f s e k = rw (e, k)
+
+pub account-told : (f : Farm) (s : ℕ) → passesOf f ≡ true → between 1 s (f .shows) ≡ true
+    → accountSaid f s ≡ granted (s ∷ heldBy f s ∷ (heldBy f s - allowanceOf f s) ∷ [])
+unfolding accountSaid
+account-told f s e k = rw (e, k)
+
+-- ---- Offers
+
+module _ (f : Farm) (s z d : ℕ) where
+  pub asked-farm : passesOf f ≡ false → offerAsked f s z d ≡ 11
+  unfolding offerAsked
+  asked-farm a = rw a
+
+  pub asked-show : passesOf f ≡ true → between 1 s (f .shows) ≡ false → offerAsked f s z d ≡ 4
+  unfolding offerAsked
+  asked-show a b = rw (a, b)
+
+  pub asked-size : passesOf f ≡ true → between 1 s (f .shows) ≡ true → between 1 z 1_000_000 ≡ false → offerAsked f s z d ≡ 5
+  unfolding offerAsked
+  asked-size a b c = rw (a, b, c)
+
+  pub asked-deadline : passesOf f ≡ true → between 1 s (f .shows) ≡ true → between 1 z 1_000_000 ≡ true → (ltb (f .clock) d && leb d greatest) ≡ false → offerAsked f s z d ≡ 6
+  unfolding offerAsked
+  asked-deadline a b c e = rw (a, b, c, e)
+
+  pub asked-queue : passesOf f ≡ true → between 1 s (f .shows) ≡ true → between 1 z 1_000_000 ≡ true → (ltb (f .clock) d && leb d greatest) ≡ true
+      → (ltb (f .waiting) 128 && ltb (f .used) greatest) ≡ false → offerAsked f s z d ≡ 7
+  unfolding offerAsked
+  asked-queue a b c e g = rw (a, b, c, e, g)
+
+  pub asked-all : passesOf f ≡ true → between 1 s (f .shows) ≡ true → between 1 z 1_000_000 ≡ true → (ltb (f .clock) d && leb d greatest) ≡ true
+      → (ltb (f .waiting) 128 && ltb (f .used) greatest) ≡ true → offerAsked f s z d ≡ 0
+  unfolding offerAsked
+  asked-all a b c e g = rw (a, b, c, e, g)
+
+  -- Refused at a question before the walk: the farm as it was.
+  pub offer-refused : (r : Reply) (q : Question) → r ≡ record { answer = answer.No q; farm = f } → offerAsked f s z d ≡ numberOf q → eqb (numberOf q) 0 ≡ false
+      → Replies r (offerSaid f s z d) (offerFarm f s z d)
+  unfolding offerSaid offerFarm
+  offer-refused r q e a n =
+      record { says = ap (λ (x : Reply). said (x .answer)) e ∙ rw (a, n); hands = ap (λ (x : Reply). x .farm) e ∙ rw (a, n) }
+
+  -- Refused by the walk: the farm as it was.
+  pub offer-unbooked : (r : Reply) (q : Question) → numberOf q ≡ 8 → r ≡ record { answer = answer.No q; farm = f } → offerAsked f s z d ≡ 0 → accepts f s z d ≡ false
+      → Replies r (offerSaid f s z d) (offerFarm f s z d)
+  unfolding offerSaid offerFarm
+  offer-unbooked r q m e a b =
+      record { says = ap (λ (x : Reply). said (x .answer)) e ∙ rw (a, b, m); hands = ap (λ (x : Reply). x .farm) e ∙ rw (a, b) }
+
+  -- Accepted: the next farm holds the plan.
+  pub offer-booked : (r : Reply) → said (r .answer) ≡ yesOf (f .costs) (ofNumber (f .used + 1) (planned f s z d)) → r .farm ≡ withPlan f (planned f s z d)
+      → offerAsked f s z d ≡ 0 → accepts f s z d ≡ true → Replies r (offerSaid f s z d) (offerFarm f s z d)
+  unfolding offerSaid offerFarm
+  offer-booked r e g a b = record { says = e ∙ rw (a, b); hands = g ∙ rw (a, b) }
+
+-- ---- What the walk of an offer starts from
+
+-- The waiting jobs and the new one, in the array.
+pub with-new : (f : Farm) (j : Job) → f .waiting < length (f .jobs)
+    → (take (f .waiting + 1) (set (f .jobs) (f .waiting) j) ≡ waitingOf f ++ j ∷ []) × (drop (f .waiting + 1) (set (f .jobs) (f .waiting) j) ≡ drop (f .waiting + 1) (f .jobs))
+with-new f j h = (
+  rw (add-one (f .waiting)) (take-suc-set (f .jobs) (f .waiting) j h),
+  drop-set-lt (f .waiting + 1) (f .jobs) (f .waiting) j (omega arith),
+)
+
+-- The array of the jobs in order: those that are walked, and what was behind the waiting jobs.
+pub ordered-is : (f : Farm) (j : Job) (js : List Job) → f .waiting < length (f .jobs)
+    → js ≡ byDeadline (take (f .waiting + 1) (set (f .jobs) (f .waiting) j)) ++ drop (f .waiting + 1) (set (f .jobs) (f .waiting) j)
+    → (take (f .waiting + 1) js ≡ byDeadline (waitingOf f ++ j ∷ [])) × (drop (f .waiting + 1) js ≡ drop (f .waiting + 1) (f .jobs))
+ordered-is f j js h e =
+    let n = with-new f j h in
+    let q = byDeadline (waitingOf f ++ j ∷ []) in
+    let l : length q ≡ f .waiting + 1 =
+    sym (perm-length (by-deadline-perm (waitingOf f ++ j ∷ []))) ∙ length-append (waitingOf f) (j ∷ []) ∙ ap (λ (x : ℕ). x + 1) (length-take-le (f .waiting) (f .jobs) (omega arith)) in
+    let w : js ≡ q ++ drop (f .waiting + 1) (f .jobs) = e ∙ rw (n .0, n .1) in
+    (rw w (take-at q (drop (f .waiting + 1) (f .jobs)) (f .waiting + 1) l), rw w (drop-at q (drop (f .waiting + 1) (f .jobs)) (f .waiting + 1) l))
+
+-- What holds of each job and of the empty one holds of the job of a number.
+pub of-number : (P : Job → Type 0) (n : ℕ) (js : List Job) → All P js → P emptyJob → P (ofNumber n js)
+unfolding ofNumber
+of-number P n [] a z = z
+of-number P n (j ∷ js) a z = go (eqb (j .number) n) (of-number P n js (a .1) z)
+  where
+    go : (t : Bool) → P (ofNumber n js) → P (cond t j (ofNumber n js))
+    go true r = a .0
+    go false r = r
+
+-- ---- What the functions of an offer promise each other
+
+-- What questions 6 and 7 say.
+pub deadline-is : (t d : ℕ) → (ltb t d && leb d greatest) ≡ true → (t < d) × (d ≤ greatest)
+deadline-is t d e = (ltb-true t d (and-both (ltb t d) (leb d greatest) e .0), leb-true d greatest (and-both (ltb t d) (leb d greatest) e .1))
+
+pub place-is : (w u : ℕ) → (ltb w 128 && ltb u greatest) ≡ true → (w < 128) × (u < greatest)
+place-is w u e = (ltb-true w 128 (and-both (ltb w 128) (ltb u greatest) e .0), ltb-true u greatest (and-both (ltb w 128) (ltb u greatest) e .1))
+
+-- a farm and a job that may be walked: past questions 11, 5, 6 and 7
+pub record Offered (f : Farm) (j : Job) : Type 0 where
+  pub passes : passesOf f ≡ true
+  pub size : 1 ≤ j .size
+  pub deadline : j .deadline ≤ greatest
+  pub waiting : f .waiting < 128
+
+-- the walk of the waiting jobs and a new one
+pub record PlanWith (f : Farm) (j : Job) (ok : Bool) (out : List Job) : Type 0 where
+  pub books : ok ≡ booksAll (termsOf f) (busyOf f) (byDeadline (waitingOf f ++ j ∷ []))
+  pub plans : ok ≡ true → out ≡ plan (termsOf f) (busyOf f) (byDeadline (waitingOf f ++ j ∷ [])) ++ drop (f .waiting + 1) (f .jobs)
+
+-- On a farm that passes, the walk has costs and nodes that the shares answer for, and jobs of at least a unit with deadlines in the range.
+pub walk-ready : (f : Farm) (j : Job) → Offered f j → Ready (termsOf f) (byDeadline (waitingOf f ++ j ∷ []))
+walk-ready f j o =
+    let g = passes-within f (o .passes) in
+    record {
+      answered = answered (f .costs) (f .nodes) (g .costs .send .0) (g .nodes .1);
+      jobs = perm-all (λ (x : Job). (1 ≤ x .size) × (x .deadline ≤ greatest)) (by-deadline-perm (waitingOf f ++ j ∷ []))
+          (all-join (λ (x : Job). (1 ≤ x .size) × (x .deadline ≤ greatest)) (waitingOf f) (j ∷ [])
+          (all-map (λ x a. (a .0 .size .0, a .0 .deadline)) (waitingOf f) (passes-jobs f (o .passes))) ((o .size, o .deadline), tt));
+    }
+
+-- The job of a number, one by one.
+pub number-next : (n i : ℕ) (js : List Job) → i < length js → ofNumber n (drop i js) ≡ cond (eqb (getD js i noJob .number) n) (getD js i noJob) (ofNumber n (drop (i + 1) js))
+unfolding ofNumber
+number-next n i js h = rw (add-one i, drop-cons js i noJob h)
+
+-- a farm and the jobs of a plan that books them all
+pub record Accepting (f : Farm) (js : List Job) : Type 0 where
+  pub waiting : f .waiting < 128
+  pub used : f .used < greatest
+  pub sends : All (Sends (f .costs)) (take (f .waiting + 1) js)
+
+-- the reply to an accepted offer
+pub record Accepts (f : Farm) (js : List Job) (r : Reply) : Type 0 where
+  pub says : said (r .answer) ≡ yesOf (f .costs) (ofNumber (f .used + 1) (take (f .waiting + 1) js))
+  pub hands : r .farm ≡ nextFarm f js
+
+-- The empty job has no chunks to work out.
+pub empty-sends : (c : Costs) → Sends c emptyJob
+unfolding bookingOf finish
+empty-sends c = record { few = omega arith; nodes = refl; shares = refl; known = tt; ends = omega arith }
+
+-- The plan of an offer that is accepted: the jobs at the front of the array, each with chunks that can be worked out.
+module _ (f : Farm) (j : Job) (o : Offered f j) (sized : length (f .free) ≡ 64) (full : length (f .jobs) ≡ 128) (ok : Bool) (out : List Job) (p : PlanWith f j ok out) (yes′ : ok ≡ true) where
+  pub plan-jobs : take (f .waiting + 1) out ≡ plan (termsOf f) (busyOf f) (byDeadline (waitingOf f ++ j ∷ []))
+  plan-jobs =
+      let q = byDeadline (waitingOf f ++ j ∷ []) in
+      let l : length q ≡ f .waiting + 1 =
+      sym (perm-length (by-deadline-perm (waitingOf f ++ j ∷ []))) ∙ length-append (waitingOf f) (j ∷ []) ∙ ap (λ (x : ℕ). x + 1) (length-take-le (f .waiting) (f .jobs) (omega (arith, o .waiting))) in
+      rw (p .plans yes′) (take-at (plan (termsOf f) (busyOf f) q) (drop (f .waiting + 1) (f .jobs)) (f .waiting + 1) (plan-length (termsOf f) (busyOf f) q ∙ l))
+
+  pub accepting : f .used < greatest → Accepting f out
+  accepting u =
+      let r = walk-ready f j o in
+      let g = passes-within f (o .passes) in
+      let best = walk-best (termsOf f) (busyOf f) (byDeadline (waitingOf f ++ j ∷ [])) r (omega (arith, g .nodes .1)) (sym (p .books) ∙ yes′) in
+      record {
+        waiting = o .waiting;
+        used = u;
+        sends = rw plan-jobs (plan-sends (termsOf f) (busyOf f) (byDeadline (waitingOf f ++ j ∷ [])) (g .nodes .1) sized (all-map (λ x a. a .1) (byDeadline (waitingOf f ++ j ∷ [])) (r .jobs)) best);
+      }
