@@ -16,21 +16,23 @@ use Rattle.walk.specs.declared.Job.{Job}
 use Rattle.walk.specs.declared.Terms.{Terms}
 use Rattle.walk.specs.declared.Busy.{Busy}
 use Rattle.walk.specs.declared.Chunk.{Chunk}
 use Rattle.planner.specs.declared.Farm.{Farm}
 use Rattle.planner.specs.Model.{greatest, between, costsWithin, Span, linesOf, spansOf, spansOfAll, Sized, afters, waitingOf, busyOf, termsOf, busyAfter, plan, Between}
 use Rattle.planner.specs.Passes.{passesOf}
 use Rattle.walk.specs.Chain.{Chain, chain-append, Proper, job-finish, afters-length}
 use Rattle.walk.specs.Order.{by-deadline-perm}
 use Rattle.soundness.specs.Sweep.{spans-all}
-use Rattle.planner.specs.Sound.{Paired, passes-iff}
+use Rattle.soundness.specs.Sound.{Paired}
+use Rattle.demands.specs.QuestionEleven.{passes-iff}
 use Rattle.planner.specs.Calls.{openedWith, showsWithin, openFarm, heldBy, newJob, queueOf, planned, withPlan}
-use Rattle.planner.specs.Kept.{all-replicate, opens-with, open-sized, open-passes, waiting-planned, accepted-sized, accepted-passes}
+use Rattle.demands.specs.OfferPasses.{all-replicate, opens-with, open-sized, open-passes, waiting-planned, accepted-sized, accepted-passes}
 use Rattle.planner.specs.Clock.{begun, left, issued, movedFarm}
-use Rattle.planner.specs.Lists.{Call, offer, move, Accepted, History, opening, note, run, heldOf, upTo, acceptedOf}
+use Rattle.demands.specs.CallLists.{Call, offer, move, Accepted, History, opening, note, run, heldOf, upTo, acceptedOf}
 use Rattle.timetable.specs.Begin.{afters-append}
-use Rattle.planner.specs.Seam.{begun-left, spans-append, chunkOf, spans-chunks, afters-within, sum-within, held-part, held-append, held-free, raised-held}
-use Rattle.planner.specs.MoveKept.{Waiting, moved-chain, begun-jobs, moved-waiting, moved-sized, moved-passes}
-use Rattle.planner.specs.Outcome.{Refused, taken, Takes, Moves, outcome, chunks-named}
+use Rattle.demands.specs.BegunJobs.{begun-left, spans-append, chunkOf, spans-chunks}
+use Rattle.demands.specs.HeldTicks.{afters-within, sum-within, held-part, held-append, held-free, raised-held}
+use Rattle.demands.specs.MovePasses.{Waiting, moved-chain, begun-jobs, moved-waiting, moved-sized, moved-passes}
+use Rattle.demands.specs.Outcome.{Refused, taken, Takes, Moves, outcome, chunks-named}
 
 -- ---- The invariant
 

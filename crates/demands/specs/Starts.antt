@@ -15,13 +15,15 @@ use Rattle.walk.specs.declared.Chunk.{Chunk}
 use Rattle.walk.specs.Chain.{Proper}
 use Rattle.walk.specs.Order.{by-start-perm}
 use Rattle.soundness.specs.Sweep.{spans-each}
 use Rattle.planner.specs.declared.Farm.{Farm}
 use Rattle.planner.specs.Model.{greatest, between, chunksFrom, Span, spansOf, spansOfAll, byStart, waitingOf, Sized, Apart}
 use Rattle.planner.specs.Passes.{passesOf}
-use Rattle.planner.specs.Sound.{Paired, passes-iff}
+use Rattle.soundness.specs.Sound.{Paired}
+use Rattle.demands.specs.QuestionEleven.{passes-iff}
 use Rattle.planner.specs.Clock.{keep, startsBy, begun, issued, moveAsked}
-use Rattle.planner.specs.Seam.{keep-all}
-use Rattle.planner.specs.MoveKept.{Waiting, waiting-jobs, begun-jobs, lines-few, move-asked}
+use Rattle.timetable.specs.Keep.{keep-all}
+use Rattle.planner.specs.ClockSteps.{move-asked}
+use Rattle.demands.specs.MovePasses.{Waiting, waiting-jobs, begun-jobs, lines-few}
 
 -- two jobs start at different ticks
 abbrev pub StartsDiffer : Job → Job → Type 0

@@ -16,21 +16,23 @@ use Rattle.shares.specs.Lists.{Positive}
 use Rattle.booking.specs.Best.{chosen, units}
 use Rattle.walk.specs.declared.Job.{Job}
 use Rattle.walk.specs.declared.Chunk.{Chunk}
 use Rattle.planner.specs.declared.Farm.{Farm}
 use Rattle.planner.specs.Model.{Span, chunksFrom, linesOf, spansOf, spansOfAll, Sized, waitingOf, busyOf, termsOf}
 use Rattle.planner.specs.Passes.{passesOf}
 use Rattle.walk.specs.Chain.{chunks-finish}
 use Rattle.walk.specs.Order.{by-deadline-perm}
 use Rattle.walk.specs.Plan.{plan-numbers}
 use Rattle.soundness.specs.Sweep.{spans-all}
 use Rattle.planner.specs.Calls.{newJob, queueOf, planned, withPlan}
-use Rattle.planner.specs.Kept.{waiting-planned}
+use Rattle.demands.specs.OfferPasses.{waiting-planned}
 use Rattle.planner.specs.Clock.{startsBy, startsAfter, begun, left, movedFarm}
-use Rattle.planner.specs.Lists.{Call, offer, move, handed, linesBy, Accepted, History, note, linesFor, unitsIn, acceptedOf, Fulfils, FromFirst, Waits, NoneOf, IssuesNone, Lifecycle, waits, passes, begins}
-use Rattle.planner.specs.Seam.{keep-all, begun-left, numberOfJob}
-use Rattle.planner.specs.MoveKept.{Waiting, waiting-jobs, waiting-differ, begun-jobs, moved-waiting}
-use Rattle.planner.specs.Outcome.{Refused, Takes, Moves, outcome, chunks-named}
-use Rattle.planner.specs.Invariant.{Whole, Inv, waiting-whole, plan-accepted, note-inv}
+use Rattle.demands.specs.CallLists.{Call, offer, move, handed, linesBy, Accepted, History, note, linesFor, unitsIn, acceptedOf, Fulfils, FromFirst, Waits, NoneOf, IssuesNone, Lifecycle, waits, passes, begins}
+use Rattle.timetable.specs.Keep.{keep-all}
+use Rattle.demands.specs.BegunJobs.{begun-left}
+use Rattle.demands.specs.JobNumbers.{numberOfJob}
+use Rattle.demands.specs.MovePasses.{Waiting, waiting-jobs, waiting-differ, begun-jobs, moved-waiting}
+use Rattle.demands.specs.Outcome.{Refused, Takes, Moves, outcome, chunks-named}
+use Rattle.demands.specs.Invariant.{Whole, Inv, waiting-whole, plan-accepted, note-inv}
 
 -- ---- Membership
 
