@@ -2,7 +2,7 @@
 use mathlib.Core.Path.{_≡_, refl, ap, sym, subst, _∙_}
 use mathlib.Core.List.{List, [], _∷_, _++_, map, Permᴰ·map}
 use mathlib.Core.Bool.{true, _&&_}
-use Prim.Native.Nat.{ℕ, suc, _*_, _≤_}
+use Prim.Native.Nat.{ℕ, _*_, _≤_}
 use native.Mathlib.Omega.{arith}
 use borrow.Author.Tests.{leb-false, not-true}
 use lib.ListN.{length, take, drop, length-append, length-drop, take-append-drop}
@@ -12,7 +12,7 @@ use Rattle.booking.specs.Best.{chosen, units}
 use Rattle.walk.specs.declared.Job.{Job}
 use Rattle.walk.specs.declared.Chunk.{Chunk}
 use Rattle.planner.specs.declared.Farm.{Farm}
-use Rattle.planner.specs.Model.{greatest, linesOf, spansOf, spansOfAll, JobSized, Sized, afters, fitAll, byStart, waitingOf, busyOf, Between, Apart}
+use Rattle.planner.specs.Model.{greatest, linesOf, spansOf, spansOfAll, JobSized, Sized, afters, fitAll, byStart, waitingOf, busyOf, Apart}
 use Rattle.soundness.specs.Model.{jobsPass, allDiffer}
 use Rattle.planner.specs.Passes.{figuresOf, numbersOf, waitingPass, passesOf, JobWithin, JobSound, Passes}
 use Rattle.planner.specs.PassesSteps.{farmWithin, usable}

@@ -2,31 +2,26 @@
 use mathlib.Core.Path.{_≡_, refl, ap, sym, subst, _∙_}
 use mathlib.Core.List.{List, [], _∷_, _++_, map, List·Permᴰ·trans, List·Permᴰ·append-comm, Permᴰ·map}
 use mathlib.Core.Bool.{Bool, true, false, cond, _&&_}
-use Prim.Native.Nat.{ℕ, zero, suc, _+_, _-_, _≤_, _<_}
-use native.Mathlib.Nat.{mul-le-mul-right}
+use Prim.Native.Nat.{ℕ, zero, suc, _+_, _-_, _≤_}
 use native.Mathlib.Omega.{arith}
 use borrow.Author.Tests.{eqb-true}
-use lib.Dec.{leb, ltb, eqb}
-use lib.ListN.{length, take, drop, set, replicate, length-append, length-drop, length-replicate, take-append-drop}
+use lib.Dec.{eqb}
+use lib.ListN.{length, take, drop, replicate, length-append, length-drop, length-replicate, take-append-drop}
 use lib.Seq.{take-at, length-take-le}
 use Rattle.lists.specs.Laws.{All, Pairs, Differ, all-map, all-both, all-image, all-take, all-append, all-join, perm-all, perm-pairs, perm-length}
 use Rattle.shares.specs.declared.Costs.{Costs}
-use Rattle.shares.specs.Model.{sendEnd, chunkFinish, finish}
-use Rattle.shares.specs.Lists.{Positive}
 use Rattle.shares.specs.Chunks.{finish-latest}
 use Rattle.booking.specs.declared.Booking.{Booking}
 use Rattle.booking.specs.Model.{bookingOf}
-use Rattle.booking.specs.Best.{freeAt, chosen, units, Best}
+use Rattle.booking.specs.Best.{chosen, units, Best}
 use Rattle.booking.specs.Booked.{some-share}
 use Rattle.walk.specs.declared.Job.{Job}
-use Rattle.walk.specs.declared.Terms.{Terms}
 use Rattle.walk.specs.declared.Busy.{Busy}
 use Rattle.planner.specs.declared.Farm.{Farm}
-use Rattle.walk.specs.declared.Chunk.{Chunk}
-use Rattle.planner.specs.Model.{greatest, between, allAtMost, costsWithin, emptyJob, chunksFrom, linesOf, spansOf, spansOfAll, JobSized, Sized, after, afters, waitingOf, busyOf, termsOf, requestOf, step, busyAfter, plan, Apart, Between}
-use Rattle.planner.specs.Passes.{figuresOf, numbersOf, passesOf, JobWithin, JobSound, Within, Passes}
+use Rattle.planner.specs.Model.{greatest, between, allAtMost, costsWithin, emptyJob, spansOfAll, JobSized, Sized, after, waitingOf, busyOf, termsOf, requestOf, step, Apart, Between}
+use Rattle.planner.specs.Passes.{figuresOf, passesOf, JobWithin, JobSound, Within, Passes}
 use Rattle.planner.specs.Calls.{unopened, openedWith, showsWithin, openFarm, newJob, queueOf, planned, accepts, withPlan, offerAsked, offerFarm}
-use Rattle.walk.specs.Chain.{Fits, Chain, chain-job, Proper, free-other, afters-length, chain-follows, chain-apart, job-proper}
+use Rattle.walk.specs.Chain.{Fits, Chain, Proper, chain-follows, chain-apart}
 use Rattle.walk.specs.Order.{by-deadline-perm}
 use Rattle.limits.specs.Says.{says-costs, says-at-most, between-is}
 use Rattle.soundness.specs.Sweep.{spans-each, spans-all}

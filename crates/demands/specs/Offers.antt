@@ -1,20 +1,19 @@
 -- Demand 2 on an offer: past the questions before the walk it is accepted exactly when the walk books the waiting jobs and the new one, and then the
 -- next farm holds that plan.
 use mathlib.Core.Path.{_≡_, refl}
-use mathlib.Core.List.{List, [], _∷_, _++_}
 use mathlib.Core.Bool.{Bool, true, false, cond, _&&_}
 use mathlib.Core.Logic.{_⊎_, inl, inr, ⊎-elim}
-use Prim.Native.Nat.{ℕ, zero, suc, _+_, _≤_, _<_}
+use Prim.Native.Nat.{ℕ, suc, _≤_, _<_}
 use native.Mathlib.Omega.{arith}
 use borrow.Author.Tests.{ne-eqb}
-use lib.Dec.{leb, ltb, eqb}
+use lib.Dec.{leb, ltb}
 use lib.ListN.{length}
 use Rattle.limits.specs.Says.{between-is}
 use Rattle.walk.specs.Booked.{BestAll, Fails, walk-is}
 use Rattle.planner.specs.declared.Farm.{Farm}
-use Rattle.planner.specs.Model.{greatest, between, Between, waitingOf, termsOf, busyOf}
+use Rattle.planner.specs.Model.{greatest, between, Between, termsOf, busyOf}
 use Rattle.planner.specs.Passes.{passesOf}
-use Rattle.planner.specs.Calls.{Said, refused, newJob, queueOf, planned, accepts, withPlan, offerAsked, offerSaid, offerFarm}
+use Rattle.planner.specs.Calls.{refused, newJob, queueOf, planned, accepts, withPlan, offerAsked, offerSaid, offerFarm}
 use Rattle.planner.specs.CallsSteps.{Offered, walk-ready, deadline-is, place-is}
 
 -- An offer that does not pass questions 11, 4, 5, 6 and 7 is refused with the number of the first answered no, and the farm is as it was.

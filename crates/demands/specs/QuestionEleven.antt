@@ -1,18 +1,18 @@
 -- Question 11: the test that runs says what the paper asks, and the order of the waiting jobs in the array does not matter to it.
 use mathlib.Core.Path.{_≡_, ap, sym, subst}
 use mathlib.Core.List.{List, List·Permᴰ, Permᴰ·map}
-use mathlib.Core.Bool.{Bool, true, _&&_, and-assoc}
+use mathlib.Core.Bool.{Bool, true, and-assoc}
 use mathlib.Core.Logic.{_↔_}
 use Prim.Native.Nat.{ℕ}
 use lib.ListN.{take}
-use Rattle.lists.specs.Laws.{All, all-take, perm-all, perm-pairs}
+use Rattle.lists.specs.Laws.{all-take, perm-all, perm-pairs}
 use Rattle.limits.specs.Says.{Says, says-true, says-as, says-then, says-both}
 use Rattle.walk.specs.declared.Job.{Job}
 use Rattle.soundness.specs.Sweep.{spans-perm, apart-sym}
 use Rattle.soundness.specs.Sound.{says-waiting}
 use Rattle.planner.specs.declared.Farm.{Farm}
 use Rattle.planner.specs.Model.{waitingOf, busyOf, JobSized, Sized, Apart}
-use Rattle.planner.specs.Passes.{countsWithin, timesWithin, figuresOf, passesOf, JobWithin, JobSound, Sound, Within, Passes}
+use Rattle.planner.specs.Passes.{countsWithin, timesWithin, figuresOf, passesOf, JobWithin, JobSound, Within, Passes}
 use Rattle.planner.specs.PassesSteps.{farmWithin, usable, says-within}
 
 -- The test of the farm itself says that it is opened and that its figures are within their limits.

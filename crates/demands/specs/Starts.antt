@@ -1,9 +1,9 @@
 -- Waiting jobs start at different ticks, since their first sends share no tick of the link. So a move to the next start begins one job, and a
 -- timetable of 64 records holds its lines: after a refusal with 10 shorter moves get through.
-use mathlib.Core.Path.{_≡_, refl, ap, sym, subst, _∙_}
-use mathlib.Core.List.{List, [], _∷_, _++_, map, List·Memᴰ}
+use mathlib.Core.Path.{_≡_, refl, sym, _∙_}
+use mathlib.Core.List.{List, [], _∷_, map, List·Memᴰ}
 use mathlib.Core.Bool.{Bool, true, false, cond}
-use Prim.Native.Nat.{ℕ, zero, suc, _*_, _≤_, _<_}
+use Prim.Native.Nat.{ℕ, _≤_}
 use native.Mathlib.Omega.{arith}
 use borrow.Author.Tests.{leb-true, le-leb}
 use lib.ListN.{length}
@@ -18,7 +18,6 @@ use Rattle.soundness.specs.Sweep.{spans-each}
 use Rattle.planner.specs.declared.Farm.{Farm}
 use Rattle.planner.specs.Model.{greatest, between, chunksFrom, Span, spansOf, spansOfAll, byStart, waitingOf, Sized, Apart}
 use Rattle.planner.specs.Passes.{passesOf}
-use Rattle.soundness.specs.Sound.{Paired}
 use Rattle.demands.specs.QuestionEleven.{passes-iff}
 use Rattle.planner.specs.Clock.{keep, startsBy, begun, issued, moveAsked}
 use Rattle.timetable.specs.Keep.{keep-all}

@@ -10,7 +10,6 @@ use mathlib.Core.Bool.{Bool, true, _&&_}
 use lib.Dec.{leb}
 use lib.ListN.{take}
 use Rattle.lists.specs.Laws.{All}
-use Rattle.walk.specs.declared.Job.{Job}
 use Rattle.soundness.specs.declared.Figures.{Figures}
 use Rattle.planner.specs.declared.Farm.{Farm}
 use Rattle.planner.specs.Model.{greatest, between, allAtMost, costsWithin, waitingOf, busyOf, Between}

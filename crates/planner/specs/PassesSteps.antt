@@ -1,8 +1,6 @@
 -- Question 11, part by part: what the functions of src/passing.rt need, and what is known of a farm that passes.
-use mathlib.Core.Path.{_≡_, refl}
-use mathlib.Core.List.{List}
+use mathlib.Core.Path.{_≡_}
 use mathlib.Core.Bool.{Bool, true, false, _&&_}
-use lib.Dec.{leb}
 use lib.ListN.{take}
 use Rattle.lists.specs.Laws.{All}
 use Rattle.limits.specs.Says.{Says, says-le, says-as, says-both, says-between, says-at-most, says-costs}

@@ -18,7 +18,7 @@ use Rattle.walk.specs.Model.{greatest, spansOf, spansOfAll, byStart, fitAll, Ap
 use Rattle.walk.specs.Chain.{Fits, Proper, fit-all-chain, chain-follows, follows-apart, job-proper}
 use Rattle.walk.specs.Order.{by-start-perm, by-start-grows}
 use Rattle.soundness.specs.declared.Figures.{Figures}
-use Rattle.soundness.specs.Model.{noneOf, allDiffer, numbersOf, jobWithin, sharesKept, jobKept, jobPasses, jobsPass, waitingPass, JobWithin, JobSound, Sound}
+use Rattle.soundness.specs.Model.{noneOf, allDiffer, numbersOf, jobWithin, sharesKept, jobKept, jobPasses, jobsPass, waitingPass, JobWithin, Sound}
 use Rattle.soundness.specs.Sweep.{spans-each, spans-all, spans-perm, apart-sym, apart-follows, spans-first, spans-free, spans-fit}
 
 -- figures with which no sum wraps

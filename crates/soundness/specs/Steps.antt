@@ -17,14 +17,13 @@ use Rattle.limits.specs.Model.{allAtMost, allAtLeast, CostsWithin}
 use Rattle.limits.specs.Says.{says-at-most}
 use Rattle.limits.specs.Tests.{and-both, at-most-at}
 use Rattle.keys.specs.declared.Key.{Key}
-use Rattle.keys.specs.Model.{noKey, sortKeys, sortedFront}
+use Rattle.keys.specs.Model.{noKey}
 use Rattle.booking.specs.declared.Booking.{Booking}
 use Rattle.booking.specs.Best.{freeAt, chosen, units}
 use Rattle.walk.specs.declared.Job.{Job}
 use Rattle.walk.specs.declared.Busy.{Busy}
 use Rattle.walk.specs.declared.Chunk.{Chunk}
 use Rattle.walk.specs.Model.{greatest, noJob, chunksFrom, Span, spansOf, spansOfAll, keysBy, startOf, byStart, inOrder, fitAll}
-use Rattle.walk.specs.Rows.{order-is, order-within}
 use Rattle.soundness.specs.declared.Figures.{Figures}
 use Rattle.soundness.specs.declared.Fit.{Fit}
 use Rattle.soundness.specs.declared.Survey.{Survey}
