@@ -30,7 +30,8 @@ use Rattle.walk.specs.Plan.{plan-length, plan-sends}
 use Rattle.limits.specs.Says.{between-is}
 use Rattle.walk.specs.Order.{by-deadline-perm}
 use Rattle.planner.specs.Asked.{and-left, and-right, passes-figures, passes-jobs}
-use Rattle.walk.specs.Walk.{Sends, Ready, best-sends}
+use Rattle.walk.specs.Chunks.{Sends}
+use Rattle.walk.specs.Walk.{Ready, best-sends}
 use Rattle.walk.specs.Booked.{BestAll, Fails, walk-is, walk-best}
 use Rattle.walk.specs.Chain.{afters-length}
 use Rattle.planner.specs.Calls.{Said, said, granted, refused, numberOf, Replies, newJob, queueOf, planned, accepts, nextFarm, withPlan, ofNumber, yesOf, offerAsked, offerSaid, offerFarm}
