@@ -30,6 +30,13 @@ all-nth d P [] i h l = absurd (omega arith)
 all-nth d P (x ∷ xs) zero h l = h .0
 all-nth d P (x ∷ xs) (suc i) h l = all-nth d P xs i (h .1) (omega arith)
 
+-- P of all of a front is P at each place of it
+pub all-front : {A : Type 0} (d : A) (P : A → Type 0) (xs : List A) (n i : ℕ) → i < n → n ≤ length xs → All P (take n xs) → P (getD xs i d)
+all-front d P [] n i h l a = absurd (omega arith)
+all-front d P (x ∷ xs) zero i h l a = absurd (omega arith)
+all-front d P (x ∷ xs) (suc n) zero h l a = a .0
+all-front d P (x ∷ xs) (suc n) (suc i) h l a = all-front d P xs n i (omega arith) (omega arith) (a .1)
+
 -- P of two at once
 pub all-both : {A : Type 0} {P Q R : A → Type 0} → ((x : A) → P x → Q x → R x) → (xs : List A) → All P xs → All Q xs → All R xs
 all-both f [] h k = tt

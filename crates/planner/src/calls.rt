@@ -3,9 +3,6 @@ ghost use mathlib.Core.Path.{_≡_};
 ghost use Prim.Native.Nat.{_-_, _≤_};
 ghost use mathlib.Core.List.{[], _∷_, _++_};
 ghost use lib.ListN.{length, getD, take, replicate};
-ghost use Rattle.shares.specs.Model.{finish};
-ghost use Rattle.booking.specs.Best.{units};
-ghost use Rattle.walk.specs.Walk.{Sends};
 ghost use Rattle.planner.specs.CallsSteps.{Offered, PlanWith, Accepting, Accepts};
 ghost use Rattle.booking.specs.Model.{bookingOf};
 ghost use Rattle.planner.specs.Model.{emptyJob};
@@ -21,15 +18,15 @@ use booking::Booking;
 use limits::all_at_most;
 use limits::between;
 use limits::costs_within;
+use numbers::less;
 use shares::Costs;
 use walk::Busy;
 use walk::Job;
 use walk::Plan;
 use walk::Terms;
 use walk::by_deadline;
-use walk::later;
+use walk::finish_of;
 use walk::walked;
-use walk::wide32;
 
 // The empty job, which the array of waiting jobs is filled with.
 fn empty_job() -> Job
@@ -219,27 +216,6 @@ fn of_number(jobs: [Job; 128], count: usize, number: u64) -> Job
     empty_job()
 }
 
-// When a booked job finishes: its latest chunk's finish.
-fn finish_of(costs: Costs, job: Job) -> u64
-    requires { ⌜ Sends costs job ⌝ }
-    ensures { λ r. ⌜ r ≡ finish costs (job .booking .start) (units (job .booking)) ⌝ }
-{
-    let booking = job.booking;
-    let shares = booking.shares;
-    let count = booking.count;
-    let mut time = booking.start;
-    let mut latest = booking.start;
-    let mut i = 0;
-    while i < count {
-        let share = wide32(shares[i]);
-        let sent = time + (costs.linksetup + share * costs.send);
-        latest = later(latest, sent + (costs.nodesetup + share * costs.compute));
-        time = sent;
-        i += 1;
-    }
-    latest
-}
-
 // The walk of the waiting jobs and a new one.
 fn walk_with(farm: Farm, job: Job) -> Plan
     requires { ⌜ Offered farm job ⌝ }
@@ -309,14 +285,4 @@ fn new_job(number: u64, show: u64, size: u32, deadline: u64) -> Job
     job.size = size;
     job.deadline = deadline;
     job
-}
-
-// The difference, and 0 where there is none.
-fn less(a: u64, b: u64) -> u64
-    ensures { λ r. ⌜ r ≡ a - b ⌝ }
-{
-    if a < b {
-        return 0;
-    }
-    a - b
 }

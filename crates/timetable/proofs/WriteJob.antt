@@ -10,7 +10,7 @@ use borrow.Kind.Unit.{rUnit}
 use borrow.Kind.MutSlice.{pMutS}
 use borrow.Fn.Kinds.{PK, In, Out}
 use Rattle.walk.specs.Model.{linesOf}
-use Rattle.walk.specs.Walk.{Sends}
+use Rattle.walk.specs.Chunks.{Sends}
 use Rattle.timetable.proofs.Chunks as slice
 use Rattle.timetable.proofs.Structs as S
 use Rattle.timetable.proofs.Value.{param}

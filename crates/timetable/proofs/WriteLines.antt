@@ -10,7 +10,7 @@ use borrow.Kind.Unit.{rUnit}
 use borrow.Kind.MutSlice.{pMutS}
 use borrow.Fn.Kinds.{PK, In, Out}
 use Rattle.lists.specs.Laws.{All}
-use Rattle.walk.specs.Walk.{Sends}
+use Rattle.walk.specs.Chunks.{Sends}
 use Rattle.timetable.specs.Model.{linesOfAll}
 use Rattle.timetable.specs.Begin.{chunks}
 use Rattle.timetable.proofs.Chunks as slice

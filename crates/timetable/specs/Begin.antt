@@ -1,5 +1,5 @@
 -- What the functions of src/begin.rt promise each other, and their loops' steps.
-use mathlib.Core.Path.{_≡_, refl, ap, ap₂, sym, subst, _∙_}
+use mathlib.Core.Path.{_≡_, refl, ap, ap₂, sym, _∙_}
 use mathlib.Core.List.{List, [], _∷_, _++_, append-nil, append-assoc}
 use mathlib.Core.Bool.{Bool, true, false, cond, false≢true}
 use Prim.Native.Nat.{ℕ, suc, _+_, _-_, _≤_, _<_}
@@ -8,13 +8,13 @@ use native.Mathlib.Omega.{arith}
 use borrow.Author.Tests.{le-leb, lt-leb}
 use lib.ListN.{length, getD, take, drop, set, length-set, drop-of-length-le, take-append-drop}
 use lib.Seq.{drop-cons, getD-take, length-take-le, take-suc-set}
-use Rattle.lists.specs.Laws.{All, all-nth}
+use Rattle.lists.specs.Laws.{All}
 use Rattle.shares.specs.declared.Costs.{Costs}
 use Rattle.walk.specs.declared.Job.{Job}
 use Rattle.walk.specs.declared.Busy.{Busy}
 use Rattle.walk.specs.declared.Chunk.{Chunk}
 use Rattle.walk.specs.Model.{noJob, linesOf, afters}
-use Rattle.walk.specs.Walk.{Sends}
+use Rattle.walk.specs.Chunks.{Sends}
 use Rattle.walk.specs.Rows.{rest-more}
 use Rattle.timetable.specs.Model.{startsBy, startsAfter, keep, linesOfAll}
 
@@ -63,10 +63,6 @@ jobs-none jobs n i f h = drop-of-length-le (take n jobs) {i = i} (omega (arith, 
 module _ (jobs : List Job) (n i : ℕ) (h : i < n) (f : n ≤ length jobs) where
   pub jobs-next : drop i (take n jobs) ≡ getD jobs i noJob ∷ drop (i + 1) (take n jobs)
   jobs-next = rw (add-one i, drop-cons (take n jobs) i noJob (omega (arith, length-take-le n jobs f)), getD-take n jobs i noJob h)
-
-  -- What holds of all holds of the next.
-  pub job-has : (P : Job → Type 0) → All P (take n jobs) → P (getD jobs i noJob)
-  job-has P a = subst P (getD-take n jobs i noJob h) (all-nth noJob P (take n jobs) i a (omega (arith, length-take-le n jobs f)))
 
   -- It starts by t, or not.
   pub starting-more : (t : ℕ) → getD jobs i noJob .booking .start ≤ t → starting t (drop i (take n jobs)) ≡ suc (starting t (drop (i + 1) (take n jobs)))

@@ -1,48 +1,21 @@
 -- Lines in lent memory, one by one: what the functions of src/lines.rt promise each other.
 use mathlib.Core.Path.{_≡_, refl, ap, sym, subst, _∙_}
 use mathlib.Core.List.{List, [], _∷_, _++_, append-assoc}
-use Prim.Native.Nat.{ℕ, zero, suc, _+_, _-_, _≤_, _<_}
+use Prim.Native.Nat.{ℕ, suc, _+_, _-_, _≤_, _<_}
 use native.Mathlib.Numerals.{add-one}
 use native.Mathlib.Omega.{arith}
 use lib.ListN.{length, getD, take, drop, set, length-append, length-drop, take-append-drop, drop-of-length-le}
-use lib.Seq.{take-suc-set, drop-set-lt, drop-cons, drop-drop, getD-take, length-take-le, take-at, drop-at}
-use Rattle.lists.specs.Laws.{All, all-nth}
+use lib.Seq.{take-suc-set, drop-set-lt, drop-drop, length-take-le, take-at, drop-at}
+use Rattle.lists.specs.Laws.{All, all-front}
 use Rattle.shares.specs.declared.Costs.{Costs}
-use Rattle.shares.specs.Model.{sendEnd, chunkFinish}
+use Rattle.shares.specs.Model.{sendEnd}
 use Rattle.walk.specs.declared.Job.{Job}
 use Rattle.walk.specs.declared.Chunk.{Chunk}
-use Rattle.walk.specs.Model.{noJob, chunksFrom, linesOf}
-use Rattle.walk.specs.Walk.{Sends}
+use Rattle.walk.specs.Model.{noJob, chunkAt, chunksFrom, linesOf}
+use Rattle.walk.specs.Chunks.{Sends, linesFrom, lines-none, lines-next}
 use Rattle.booking.specs.Best.{chosen, units}
 use Rattle.timetable.specs.Model.{linesOfAll}
-use Rattle.timetable.specs.Begin.{chunks, jobs-next, job-has}
-
--- chunk i of a job, its send beginning at t
-abbrev pub lineAt : Costs → Job → ℕ → ℕ → Chunk
-lineAt c j i t = record {
-  job = j .number;
-  show = j .show;
-  node = getD (j .booking .nodes) i 0;
-  units = getD (j .booking .shares) i 0;
-  start = t;
-  sent = sendEnd c t (getD (j .booking .shares) i 0);
-  finish = chunkFinish c t (getD (j .booking .shares) i 0);
-}
-
--- the lines of a job from chunk i on, its send beginning at t
-abbrev pub linesFrom : Costs → Job → ℕ → ℕ → List Chunk
-linesFrom c j i t = chunksFrom c (j .number) (j .show) t (drop i (chosen (j .booking))) (drop i (units (j .booking)))
-
--- Each line is followed by those of the next chunk on.
-lines-cons : (c : Costs) (j : Job) (i t : ℕ) → Sends c j → i < j .booking .count → linesFrom c j i t ≡ lineAt c j i t ∷ linesFrom c j (i + 1) (lineAt c j i t .sent)
-unfolding chunksFrom
-lines-cons c j i t s h =
-    rw (drop-cons (chosen (j .booking)) i 0 (omega (arith, s .nodes)), drop-cons (units (j .booking)) i 0 (omega (arith, s .shares)), add-one i, getD-take (j .booking .count) (j .booking .nodes) i 0 h, getD-take (j .booking .count) (j .booking .shares) i 0 h)
-
-lines-none : (c : Costs) (j : Job) (t : ℕ) → Sends c j → linesFrom c j (j .booking .count) t ≡ []
-unfolding chunksFrom
-lines-none c j t s =
-    rw (drop-of-length-le (chosen (j .booking)) {i = j .booking .count} (omega (arith, s .nodes)), drop-of-length-le (units (j .booking)) {i = j .booking .count} (omega (arith, s .shares)))
+use Rattle.timetable.specs.Begin.{chunks, jobs-next}
 
 -- memory of which the first n records stand, then come these lines, and from place e on it is what it is
 abbrev pub Filled : List Chunk → ℕ → List Chunk → ℕ → List Chunk
@@ -59,15 +32,15 @@ filled-all l e = take-append-drop e l
 module _ (c : Costs) (j : Job) (s : Sends c j) (at : ℕ) (l : List Chunk) (k : at + j .booking .count ≤ length l) where
   -- The job's lines, one further.
   pub job-next : (i t : ℕ) → i < j .booking .count
-      → Filled l (at + i) (linesFrom c j i t) (at + j .booking .count) ≡ Filled (set l (at + i) (lineAt c j i t)) (at + (i + 1)) (linesFrom c j (i + 1) (lineAt c j i t .sent)) (at + j .booking .count)
+      → Filled l (at + i) (linesFrom c j i t) (at + j .booking .count) ≡ Filled (set l (at + i) (chunkAt c j i t)) (at + (i + 1)) (linesFrom c j (i + 1) (chunkAt c j i t .sent)) (at + j .booking .count)
   job-next i t h =
       let e : at + i + 1 ≡ at + (i + 1) = omega arith in
-      ap (λ (xs : List Chunk). Filled l (at + i) xs (at + j .booking .count)) (lines-cons c j i t s h)
-      ∙ filled-next l (at + i) (at + j .booking .count) (lineAt c j i t) (linesFrom c j (i + 1) (lineAt c j i t .sent)) (omega arith) k
-      ∙ ap (λ (n : ℕ). Filled (set l (at + i) (lineAt c j i t)) n (linesFrom c j (i + 1) (lineAt c j i t .sent)) (at + j .booking .count)) e
+      ap (λ (xs : List Chunk). Filled l (at + i) xs (at + j .booking .count)) (lines-next c j s i t h)
+      ∙ filled-next l (at + i) (at + j .booking .count) (chunkAt c j i t) (linesFrom c j (i + 1) (chunkAt c j i t .sent)) (omega arith) k
+      ∙ ap (λ (n : ℕ). Filled (set l (at + i) (chunkAt c j i t)) n (linesFrom c j (i + 1) (chunkAt c j i t .sent)) (at + j .booking .count)) e
 
   pub job-written : (t : ℕ) → Filled l (at + j .booking .count) (linesFrom c j (j .booking .count) t) (at + j .booking .count) ≡ l
-  job-written t = ap (λ (xs : List Chunk). Filled l (at + j .booking .count) xs (at + j .booking .count)) (lines-none c j t s) ∙ filled-all l (at + j .booking .count)
+  job-written t = ap (λ (xs : List Chunk). Filled l (at + j .booking .count) xs (at + j .booking .count)) (lines-none c j s (j .booking .count) t (omega arith)) ∙ filled-all l (at + j .booking .count)
 
 -- ---- Several jobs
 
@@ -118,7 +91,7 @@ module _ (c : Costs) (jobs : List Job) (n k : ℕ) (h : k < n) (f : n ≤ length
   unfolding linesOfAll
   stored-next l at e a b d =
       ap (λ (js : List Job). Filled l at (linesOfAll c js) e) (jobs-next jobs n k h f)
-      ∙ filled-more l (linesOf c next) (linesOfAll c (drop (k + 1) (take n jobs))) at (next .booking .count) e (job-lines c next (job-has jobs n k h f (Sends c) a)) b d
+      ∙ filled-more l (linesOf c next) (linesOfAll c (drop (k + 1) (take n jobs))) at (next .booking .count) e (job-lines c next (all-front noJob (Sends c) jobs n k h f a)) b d
 
 pub all-stored : (c : Costs) (jobs : List Job) (n k : ℕ) (l : List Chunk) (e : ℕ) → n ≤ k → n ≤ length jobs → Filled l e (linesOfAll c (drop k (take n jobs))) e ≡ l
 unfolding linesOfAll

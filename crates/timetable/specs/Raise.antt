@@ -1,24 +1,20 @@
 -- Held ticks raised by a job's chunks, one by one.
-use mathlib.Core.Path.{_≡_, refl, _∙_}
-use mathlib.Core.List.{List, [], _∷_, _++_, map}
+use mathlib.Core.Path.{_≡_, refl, ap, _∙_}
+use mathlib.Core.List.{List, [], _∷_, _++_}
 use Prim.Native.Nat.{ℕ, zero, suc, _+_, _*_, _-_, _≤_, _<_}
-use native.Mathlib.Numerals.{add-one}
 use native.Mathlib.Omega.{arith}
 use lib.ListN.{length, getD, take, drop, set, length-set}
-use lib.Seq.{drop-cons, getD-take, getD-set-same}
+use lib.Seq.{getD-set-same}
+use Rattle.lists.specs.Laws.{all-front}
 use Rattle.shares.specs.declared.Costs.{Costs}
 use Rattle.shares.specs.Model.{sendEnd, chunkFinish, finish}
 use Rattle.booking.specs.Best.{chosen, units}
 use Rattle.walk.specs.declared.Job.{Job}
 use Rattle.walk.specs.declared.Chunk.{Chunk}
-use Rattle.walk.specs.Model.{greatest, noJob, chunksFrom, Span, spansOf, spansOfAll}
-use Rattle.walk.specs.Walk.{Sends, ends-next}
+use Rattle.walk.specs.Model.{greatest, noJob, chunkAt, chunksFrom, Span, placed, spansFrom, spansOf, spansOfAll}
+use Rattle.walk.specs.Chunks.{Sends, linesFrom, latestFrom, lines-next, ends-next}
 use Rattle.timetable.specs.Model.{raised}
-use Rattle.timetable.specs.Begin.{Raises, RaisesAll, jobs-next, job-has}
-
--- the spans of shares xs on nodes ks of a job that starts at f, the first send beginning at t
-abbrev pub spansFrom : Costs → ℕ → ℕ → ℕ → ℕ → List ℕ → List ℕ → List Span
-spansFrom c j s f t ks xs = map (λ (x : Chunk). record { from = f; chunk = x }) (chunksFrom c j s t ks xs)
+use Rattle.timetable.specs.Begin.{Raises, RaisesAll, jobs-next}
 
 -- a cell with more in it
 abbrev pub addTo : List ℕ → ℕ → ℕ → List ℕ
@@ -62,44 +58,30 @@ pub job-most : (c : Costs) (hs : List ℕ) (j : Job) (k : ℕ) → Sends c j →
 job-most c hs j k x =
     omega (arith, x .few, x .nodes, raise-most c hs (j .number) (j .show) (j .booking .start) (j .booking .start) k (chosen (j .booking)) (units (j .booking)) (x .ends))
 
--- The next chunk raises its show's cell.
-module _ (c : Costs) (nodes shares : List ℕ) (n i : ℕ) (h : i < n) (f : length (take n nodes) ≡ n) (g : length (take n shares) ≡ n) where
-  pub raise-next : (hs : List ℕ) (j s from t : ℕ)
-      → raised hs (spansFrom c j s from t (drop i (take n nodes)) (drop i (take n shares)))
-      ≡ raised (addTo hs (s - 1) (chunkFinish c t (getD shares i 0) - from)) (spansFrom c j s from (sendEnd c t (getD shares i 0)) (drop (i + 1) (take n nodes)) (drop (i + 1) (take n shares)))
-  unfolding raised chunksFrom
-  raise-next hs j s from t =
-      rw (drop-cons (take n nodes) i 0 (omega arith), drop-cons (take n shares) i 0 (omega arith), getD-take n shares i 0 h, add-one i)
-
--- where the loop over a job's chunks stands at chunk i: the chunks left raise the cells to what all of them make of the first ones, and what
--- has been added is bounded
-pub record Raising (c : Costs) (shares : List ℕ) (n start place : ℕ) (first cells : List ℕ) (time i : ℕ) : Type 0 where
+-- where the loop over a job's chunks stands at chunk i, whose send begins at t: the chunks left raise the cells to what all of them make of the
+-- first ones, and what has been added is bounded
+pub record Raising (c : Costs) (j : Job) (first cells : List ℕ) (t i : ℕ) : Type 0 where
   pub size : length cells ≡ 32
-  pub same : (j s : ℕ) (ks : List ℕ) → length (take n ks) ≡ n → s - 1 ≡ place
-      → raised first (spansFrom c j s start start (take n ks) (take n shares)) ≡ raised cells (spansFrom c j s start time (drop i (take n ks)) (drop i (take n shares)))
-  pub ends : finish c time (drop i (take n shares)) ≤ greatest
-  pub from : start ≤ time
-  pub most : getD cells place 0 ≤ getD first place 0 + i * greatest
+  pub same : raised first (spansOf c j) ≡ raised cells (placed (j .booking .start) (linesFrom c j i t))
+  pub ends : latestFrom c j i t ≤ greatest
+  pub from : j .booking .start ≤ t
+  pub most : getD cells (j .show - 1) 0 ≤ getD first (j .show - 1) 0 + i * greatest
 
--- The next chunk, with what the code works out.
-module _ (c : Costs) (shares : List ℕ) (n start place : ℕ) (first cells : List ℕ) (time i : ℕ) (h : i < n) (g : length (take n shares) ≡ n) (x : Raising c shares n start place first cells time i) where
-  pub raising-ends : chunkFinish c time (getD shares i 0) ≤ greatest
-  raising-ends = ends-next c shares shares n i h g g time (x .ends) .0
-
-  pub raising-next : place < 32 → (a sent done : ℕ) → a ≡ getD shares i 0 → sent ≡ sendEnd c time a → done ≡ sent + (c .nodesetup + a * c .compute)
-      → Raising c shares n start place first (addTo cells place (done - start)) sent (i + 1)
-  raising-next k a sent done ea es ed =
-      let t : sent ≡ sendEnd c time (getD shares i 0) = es ∙ rw ea in
-      let d : done ≡ chunkFinish c time (getD shares i 0) = ed ∙ rw (t, ea) in
-      let z = x .size in
-      let more = add-same cells place (done - start) (omega arith) in
-      record {
-        size = length-set cells place _ ∙ x .size;
-        same = λ j s ks l e. x .same j s ks l e ∙ raise-next c ks shares n i h l g cells j s start time ∙ rw (e, t, d);
-        ends = rw t (ends-next c shares shares n i h g g time (x .ends) .1);
-        from = omega (arith, x .from);
-        most = omega (arith, more, x .most, raising-ends);
-      }
+-- The next chunk raises its show's cell.
+pub raising-next : (c : Costs) (j : Job) (s : Sends c j) (first cells : List ℕ) (t i : ℕ) → i < j .booking .count → (1 ≤ j .show) × (j .show ≤ 32) → Raising c j first cells t i
+    → Raising c j first (addTo cells (j .show - 1) (chunkAt c j i t .finish - j .booking .start)) (chunkAt c j i t .sent) (i + 1)
+unfolding raised
+raising-next c j s first cells t i h k x =
+    let z = x .size in
+    let n = ends-next c j s i t h (x .ends) in
+    let more = add-same cells (j .show - 1) (chunkAt c j i t .finish - j .booking .start) (omega arith) in
+    record {
+      size = length-set cells (j .show - 1) _ ∙ x .size;
+      same = x .same ∙ ap (λ (xs : List Chunk). raised cells (placed (j .booking .start) xs)) (lines-next c j s i t h);
+      ends = n .1;
+      from = omega (arith, x .from);
+      most = omega (arith, more, x .most, n .0);
+    }
 
 -- ---- The jobs, one by one
 
@@ -113,9 +95,9 @@ pub raises-next : (c : Costs) (held cells : List ℕ) (jobs : List Job) (n i : �
     → ((k : ℕ) → getD cells k 0 ≤ getD held k 0 + i * 64_000_000_000_000) → Raises c cells (getD jobs i noJob)
 raises-next c held cells jobs n i h m f x most =
     let j = getD jobs i noJob in
-    let room = job-has jobs n i h f (λ (y : Job). getD held (y .show - 1) 0 ≤ 64_000_000_000_000) (x .room) in
+    let room = all-front noJob (λ (y : Job). getD held (y .show - 1) 0 ≤ 64_000_000_000_000) jobs n i h f (x .room) in
     record {
-      sends = job-has jobs n i h f (Sends c) (x .sends);
-      show = job-has jobs n i h f (λ (y : Job). (1 ≤ y .show) × (y .show ≤ 32)) (x .shows);
+      sends = all-front noJob (Sends c) jobs n i h f (x .sends);
+      show = all-front noJob (λ (y : Job). (1 ≤ y .show) × (y .show ≤ 32)) jobs n i h f (x .shows);
       room = omega (arith, room, most (j .show - 1));
     }

@@ -1,19 +1,18 @@
 // What begins by a time, and what is left by it.
 ghost use mathlib.Core.Path.{_≡_};
 ghost use mathlib.Core.List.{_++_};
-ghost use Prim.Native.Nat.{_+_, _*_, _≤_};
+ghost use Prim.Native.Nat.{_≤_};
 ghost use lib.ListN.{length, take, drop};
 ghost use Rattle.lists.specs.Laws.{All};
-ghost use Rattle.shares.specs.Model.{sendEnd};
-ghost use Rattle.walk.specs.Model.{greatest, afters, spansOf, spansOfAll};
-ghost use Rattle.walk.specs.Walk.{Sends};
+ghost use Rattle.walk.specs.Model.{afters, spansOf, spansOfAll};
+ghost use Rattle.walk.specs.Chunks.{Sends};
 ghost use Rattle.timetable.specs.Model.{keep, startsAfter, linesOfAll, raised};
 ghost use Rattle.timetable.specs.Begin.{anyBy, starting, chunks, Few, Raises, RaisesAll};
 use shares::Costs;
 use walk::Busy;
 use walk::Job;
+use walk::chunk_at;
 use walk::occupied;
-use walk::wide32;
 
 // The jobs that wait on, at the front of an array.
 pub struct Rest {
@@ -85,29 +84,12 @@ pub fn occupied_by(costs: Costs, busy: Busy, jobs: [Job; 128], count: usize) -> 
     now
 }
 
-// When a chunk's send ends that begins at `time`.
-fn send_end(costs: Costs, time: u64, units: u64) -> u64
-    requires { ⌜ sendEnd costs time units ≤ greatest ⌝ }
-    ensures { λ r. ⌜ r ≡ sendEnd costs time units ⌝ }
-{
-    time + (costs.linksetup + units * costs.send)
-}
-
-// When a chunk is done that is sent by `sent`.
-fn done_at(costs: Costs, sent: u64, units: u64) -> u64
-    requires { ⌜ sent + (costs .nodesetup + units * costs .compute) ≤ greatest ⌝ }
-    ensures { λ r. ⌜ r ≡ sent + (costs .nodesetup + units * costs .compute) ⌝ }
-{
-    sent + (costs.nodesetup + units * costs.compute)
-}
-
 // The held ticks after a job has begun: each of its chunks adds its finish minus the job's start.
 fn raised_by(costs: Costs, held: [u64; 32], job: Job) -> [u64; 32]
     requires { ⌜ Raises costs held job ⌝ }
     ensures { λ r. ⌜ (r ≡ raised held (spansOf costs job)) × (length r ≡ 32) ⌝ }
 {
     let booking = job.booking;
-    let shares = booking.shares;
     let count = booking.count;
     let start = booking.start;
     let place = (job.show - 1) as usize;
@@ -115,11 +97,9 @@ fn raised_by(costs: Costs, held: [u64; 32], job: Job) -> [u64; 32]
     let mut time = start;
     let mut i = 0;
     while i < count {
-        let units = wide32(shares[i]);
-        let sent = send_end(costs, time, units);
-        let finish = done_at(costs, sent, units);
-        cells[place] = cells[place] + (finish - start);
-        time = sent;
+        let chunk = chunk_at(costs, job, i, time);
+        cells[place] = cells[place] + (chunk.finish - start);
+        time = chunk.sent;
         i += 1;
     }
     cells

@@ -1,39 +1,17 @@
 // The lines of a timetable, written to lent memory.
 ghost use mathlib.Core.Path.{_≡_};
 ghost use mathlib.Core.List.{_++_};
-ghost use Prim.Native.Nat.{_+_, _≤_, _<_};
-ghost use lib.ListN.{length, getD, take, drop};
+ghost use Prim.Native.Nat.{_+_, _≤_};
+ghost use lib.ListN.{length, take, drop};
 ghost use Rattle.lists.specs.Laws.{All};
-ghost use Rattle.shares.specs.Model.{chunkFinish};
-ghost use Rattle.walk.specs.Model.{greatest, linesOf};
-ghost use Rattle.walk.specs.Walk.{Sends};
+ghost use Rattle.walk.specs.Model.{linesOf};
+ghost use Rattle.walk.specs.Chunks.{Sends};
 ghost use Rattle.timetable.specs.Model.{linesOfAll};
 ghost use Rattle.timetable.specs.Begin.{chunks};
-ghost use Rattle.timetable.specs.Lines.{lineAt};
 use shares::Costs;
 use walk::Chunk;
 use walk::Job;
-use walk::wide8;
-use walk::wide32;
-
-// Chunk i of a job, its send beginning at `from`.
-fn line(costs: Costs, job: Job, i: usize, from: u64) -> Chunk
-    requires { ⌜ (i < 64) × (chunkFinish costs from (getD (job .booking .shares) i 0) ≤ greatest) ⌝ }
-    ensures { λ r. ⌜ r ≡ lineAt costs job i from ⌝ }
-{
-    let booking = job.booking;
-    let units = wide32(booking.shares[i]);
-    let sent = from + (costs.linksetup + units * costs.send);
-    Chunk {
-        job: job.number,
-        show: job.show,
-        node: wide8(booking.nodes[i]),
-        units,
-        start: from,
-        sent,
-        finish: sent + (costs.nodesetup + units * costs.compute),
-    }
-}
+use walk::chunk_at;
 
 fn start_of(job: Job) -> u64
     ensures { λ r. ⌜ r ≡ job .booking .start ⌝ }
@@ -58,7 +36,7 @@ fn write_job(out: &mut [Chunk], at: usize, costs: Costs, job: Job)
     let mut from = start_of(job);
     let mut i: usize = 0;
     while i < count {
-        let c = line(costs, job, i, from);
+        let c = chunk_at(costs, job, i, from);
         out[at + i] = c;
         from = c.sent;
         i = i + 1;

@@ -19,7 +19,7 @@ use Rattle.booking.specs.Best.{freeAt, chosen, units}
 use Rattle.walk.specs.declared.Job.{Job}
 use Rattle.walk.specs.declared.Busy.{Busy}
 use Rattle.walk.specs.declared.Chunk.{Chunk}
-use Rattle.walk.specs.Model.{Span, chunksFrom, linesOf, spansOf, Between, Apart, after, afters, fitAll}
+use Rattle.walk.specs.Model.{Span, chunksFrom, linesOf, placed, spansOf, Between, Apart, after, afters, fitAll}
 
 -- ---- Spans in a row
 
@@ -175,7 +175,7 @@ job-finish c j =
     all-image (λ (x : Span). x .chunk .finish ≤ finish c (j .booking .start) (units (j .booking))) (λ (x : Chunk). record { from = j .booking .start; chunk = x }) (linesOf c j)
     (chunks-finish c (j .number) (j .show) (j .booking .start) (chosen (j .booking)) (units (j .booking)))
 
-placed-chunks : (f : ℕ) (xs : List Chunk) → map (λ (x : Span). x .chunk) (map (λ (x : Chunk). record { from = f; chunk = x }) xs) ≡ xs
+placed-chunks : (f : ℕ) (xs : List Chunk) → map (λ (x : Span). x .chunk) (placed f xs) ≡ xs
 placed-chunks f [] = refl
 placed-chunks f (x ∷ xs) = ap (λ (l : List Chunk). x ∷ l) (placed-chunks f xs)
 

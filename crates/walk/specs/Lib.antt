@@ -3,6 +3,7 @@ pub mod Model
 pub mod Order
 pub mod Chain
 pub mod Rows
+pub mod Chunks
 pub mod Walk
 pub mod Ranks
 pub mod Booked

@@ -33,13 +33,20 @@ emptyJob = record { number = 0; show = 0; size = 0; deadline = 0; booking = book
 abbrev pub noJob : Job
 noJob = record { number = 0; show = 0; size = 0; deadline = 0; booking = record { start = 0; count = 0; nodes = []; shares = [] } }
 
+-- the chunk of `a` units on node k, for job j of show s, its send beginning at t
+abbrev pub chunkOn : Costs → ℕ → ℕ → ℕ → ℕ → ℕ → Chunk
+chunkOn c j s t k a = record { job = j; show = s; node = k; units = a; start = t; sent = sendEnd c t a; finish = chunkFinish c t a }
+
+-- chunk i of a job, its send beginning at t
+abbrev pub chunkAt : Costs → Job → ℕ → ℕ → Chunk
+chunkAt c j i t = chunkOn c (j .number) (j .show) t (getD (j .booking .nodes) i 0) (getD (j .booking .shares) i 0)
+
 -- the chunks of shares xs on nodes ks, the first send beginning at t
 unfoldable pub chunksFrom : Costs → ℕ → ℕ → ℕ → List ℕ → List ℕ → List Chunk
 chunksFrom c j s t [] [] = []
 chunksFrom c j s t [] (a ∷ xs) = []
 chunksFrom c j s t (k ∷ ks) [] = []
-chunksFrom c j s t (k ∷ ks) (a ∷ xs) =
-    record { job = j; show = s; node = k; units = a; start = t; sent = sendEnd c t a; finish = chunkFinish c t a } ∷ chunksFrom c j s (sendEnd c t a) ks xs
+chunksFrom c j s t (k ∷ ks) (a ∷ xs) = chunkOn c j s t k a ∷ chunksFrom c j s (sendEnd c t a) ks xs
 
 -- the lines of a job's booking, in chunk order
 abbrev pub linesOf : Costs → Job → List Chunk
@@ -50,8 +57,17 @@ pub record Span : Type 0 where
   pub from : ℕ
   pub chunk : Chunk
 
+-- chunks of a job that starts at f, as spans
+abbrev pub placed : ℕ → List Chunk → List Span
+placed f xs = map (λ (x : Chunk). record { from = f; chunk = x }) xs
+
+-- the spans of shares xs on nodes ks of a job that starts at f, the first send beginning at t
+abbrev pub spansFrom : Costs → ℕ → ℕ → ℕ → ℕ → List ℕ → List ℕ → List Span
+spansFrom c j s f t ks xs = placed f (chunksFrom c j s t ks xs)
+
+-- the spans of a job's booking
 abbrev pub spansOf : Costs → Job → List Span
-spansOf c j = map (λ (x : Chunk). record { from = j .booking .start; chunk = x }) (linesOf c j)
+spansOf c j = placed (j .booking .start) (linesOf c j)
 
 -- the spans of several jobs
 unfoldable pub spansOfAll : Costs → List Job → List Span

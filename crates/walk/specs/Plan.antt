@@ -15,26 +15,26 @@ use Rattle.walk.specs.declared.Job.{Job}
 use Rattle.walk.specs.declared.Terms.{Terms}
 use Rattle.walk.specs.declared.Busy.{Busy}
 use Rattle.walk.specs.declared.Chunk.{Chunk}
-use Rattle.walk.specs.Model.{greatest, chunksFrom, linesOf, spansOf, spansOfAll, after, afters, requestOf, step, busyAfter, plan}
+use Rattle.walk.specs.Model.{greatest, chunkOn, chunksFrom, linesOf, spansFrom, spansOf, spansOfAll, after, afters, requestOf, step, busyAfter, plan}
 use Rattle.walk.specs.Chain.{Fits, Chain, chain-job, free-other, afters-length}
-use Rattle.walk.specs.Walk.{Sends, best-sends}
+use Rattle.walk.specs.Chunks.{Sends}
+use Rattle.walk.specs.Walk.{best-sends}
 use Rattle.walk.specs.Booked.{BestAll}
 
 -- ---- The plan in walk order
 
 -- chunks on different nodes, each free by f, sent back to back from t
 chunks-chain : (c : Costs) (j s f t : ℕ) (b : Busy) (ks xs : List ℕ) → b .link ≤ t → All (λ (k : ℕ). 1 ≤ k) ks → All (λ (k : ℕ). freeAt (b .free) k ≤ f) ks → Differ ks
-    → Chain b (map (λ (x : Chunk). record { from = f; chunk = x }) (chunksFrom c j s t ks xs))
+    → Chain b (spansFrom c j s f t ks xs)
 unfolding chunksFrom
 chunks-chain c j s f t b [] [] h p n d = tt
 chunks-chain c j s f t b [] (a ∷ xs) h p n d = tt
 chunks-chain c j s f t b (k ∷ ks) [] h p n d = tt
 chunks-chain c j s f t b (k ∷ ks) (a ∷ xs) h p n d =
-    let x : Chunk = record { job = j; show = s; node = k; units = a; start = t; sent = sendEnd c t a; finish = chunkFinish c t a } in
     let apart : All (λ (m : ℕ). (1 ≤ m) × (k ≡ m → ⊥)) ks = all-both (λ m q e. (q, e)) ks (p .1) (d .0) in
     let free : All (λ (m : ℕ). freeAt (set (b .free) (k - 1) (chunkFinish c t a)) m ≤ f) ks =
     all-both (λ m q e. omega (arith, free-other (b .free) k m (chunkFinish c t a) (p .0) (q .0) (q .1))) ks apart (n .1) in
-    ((h, n .0), chunks-chain c j s f (sendEnd c t a) (after b x) ks xs (omega arith) (p .1) free (d .1))
+    ((h, n .0), chunks-chain c j s f (sendEnd c t a) (after b (chunkOn c j s t k a)) ks xs (omega arith) (p .1) free (d .1))
 
 -- The spans of a booking that is best behind b are a chain from b.
 job-chain : (w : Terms) (b : Busy) (j : Job) → Best (requestOf w b j) (b .free) (step w b j .booking) → Chain b (spansOf (w .costs) (step w b j))
@@ -59,8 +59,7 @@ sends-end c j s t b [] [] h = h
 sends-end c j s t b [] (a ∷ xs) h = h
 sends-end c j s t b (k ∷ ks) [] h = h
 sends-end c j s t b (k ∷ ks) (a ∷ xs) h =
-    let x : Chunk = record { job = j; show = s; node = k; units = a; start = t; sent = sendEnd c t a; finish = chunkFinish c t a } in
-    omega (arith, sends-end c j s (sendEnd c t a) (after b x) ks xs (omega arith))
+    omega (arith, sends-end c j s (sendEnd c t a) (after b (chunkOn c j s t k a)) ks xs (omega arith))
 
 -- a first send takes the link past its start
 sends-pass : (c : Costs) (j s t : ℕ) (b : Busy) (ks xs : List ℕ) → 1 ≤ c .send → length ks ≡ length xs → 1 ≤ length xs → Positive xs → t < afters b (chunksFrom c j s t ks xs) .link
@@ -69,8 +68,7 @@ sends-pass c j s t b [] [] m e h p = absurd (omega arith)
 sends-pass c j s t b [] (a ∷ xs) m e h p = absurd (omega arith)
 sends-pass c j s t b (k ∷ ks) [] m e h p = absurd (omega arith)
 sends-pass c j s t b (k ∷ ks) (a ∷ xs) m e h p =
-    let x : Chunk = record { job = j; show = s; node = k; units = a; start = t; sent = sendEnd c t a; finish = chunkFinish c t a } in
-    omega (arith, mul-le-mul-right (c .send) (p .0), sends-end c j s (sendEnd c t a) (after b x) ks xs (omega arith))
+    omega (arith, mul-le-mul-right (c .send) (p .0), sends-end c j s (sendEnd c t a) (after b (chunkOn c j s t k a)) ks xs (omega arith))
 
 -- A booked job leaves the link free only after its start.
 link-grows : (w : Terms) (b : Busy) (j : Job) → 1 ≤ w .costs .send → 1 ≤ j .size → Best (requestOf w b j) (b .free) (step w b j .booking)

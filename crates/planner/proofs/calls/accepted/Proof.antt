@@ -1,6 +1,6 @@
 -- `planner::calls::accepted` meets its contract: the job of the new number, wherever the plan has it.
 use mathlib.Core.Path.{_≡_, refl, sym, ap, subst, _∙_}
-use Rattle.walk.specs.Walk.{Sends}
+use Rattle.walk.specs.Chunks.{Sends}
 use Rattle.planner.specs.CallsSteps.{Accepting, of-number, empty-sends}
 use borrow.Author.Needs.{needs}
 use Rattle.planner.proofs.calls.accepted.Statement.{statement}

@@ -3,7 +3,9 @@ use mathlib.Core.Path.{_≡_, _∙_}
 use Prim.Native.Nat.{_+_, _*_, _-_, _≤_}
 use native.Mathlib.Omega.{arith}
 use lib.ListN.{take, drop}
-use Rattle.timetable.specs.Begin.{chunks, chunks-next, Few, job-has, jobs-none}
+use Rattle.lists.specs.Laws.{all-front}
+use Rattle.walk.specs.Model.{noJob}
+use Rattle.timetable.specs.Begin.{chunks, chunks-next, Few, jobs-none}
 use borrow.Author.Needs.{needs}
 use Rattle.timetable.proofs.begin.line_count.Statement.{statement}
 use Rattle.timetable.proofs.begin.line_count.Tie as tie
@@ -27,7 +29,7 @@ add-lines : tie.Need-add-lines Inv-loop μ-loop
 add-lines c =
     let a = c .before .before .before .before .before .args in
     let l = c .before .before .before .before .loop in
-    let k = job-has (a .t1) (a .count) (l .i) (c .before .before .before .loop-test .taken) (omega arith) Few (c .before .before .before .before .before .pre .1) in
+    let k = all-front noJob Few (a .t1) (a .count) (l .i) (c .before .before .before .loop-test .taken) (omega arith) (c .before .before .before .before .before .pre .1) in
     omega (arith, k)
 
 add-i : tie.Need-add-i Inv-loop μ-loop
@@ -40,7 +42,7 @@ loop-again : tie.Need-loop-again Inv-loop μ-loop
 loop-again c =
     let a = c .before .before .before .before .before .args in
     let l = c .before .before .before .before .loop in
-    let k = job-has (a .t1) (a .count) (l .i) (c .before .before .before .loop-test .taken) (omega arith) Few (c .before .before .before .before .before .pre .1) in
+    let k = all-front noJob Few (a .t1) (a .count) (l .i) (c .before .before .before .loop-test .taken) (omega arith) (c .before .before .before .before .before .pre .1) in
     let e = chunks-next (a .t1) (a .count) (l .i) (c .before .before .before .loop-test .taken) (omega arith) in
     (omega arith, omega arith, omega (arith, k))
 

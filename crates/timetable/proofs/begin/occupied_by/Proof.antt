@@ -3,10 +3,11 @@ use mathlib.Core.Path.{_≡_, refl, sym, _∙_}
 use Prim.Native.Nat.{_-_, _≤_}
 use native.Mathlib.Omega.{arith}
 use lib.ListN.{take, drop}
-use Rattle.walk.specs.Model.{afters}
-use Rattle.walk.specs.Walk.{Sends}
+use Rattle.lists.specs.Laws.{all-front}
+use Rattle.walk.specs.Model.{noJob, afters}
+use Rattle.walk.specs.Chunks.{Sends}
 use Rattle.timetable.specs.Model.{linesOfAll}
-use Rattle.timetable.specs.Begin.{afters-next, job-has, jobs-none}
+use Rattle.timetable.specs.Begin.{afters-next, jobs-none}
 use borrow.Author.Needs.{needs}
 use Rattle.timetable.proofs.begin.occupied_by.Statement.{statement}
 use Rattle.timetable.proofs.begin.occupied_by.Tie as tie
@@ -30,7 +31,7 @@ occupied-requires : tie.Need-occupied-requires Inv-loop μ-loop
 occupied-requires c κs =
     let a = c .before .before .before .args in
     let l = c .before .before .loop in
-    job-has (a .t3) (a .count) (l .i) (c .before .loop-test .taken) (omega arith) (Sends (a .costs)) (c .before .before .before .pre .1)
+    all-front noJob (Sends (a .costs)) (a .t3) (a .count) (l .i) (c .before .loop-test .taken) (omega arith) (c .before .before .before .pre .1)
 
 add-i : tie.Need-add-i Inv-loop μ-loop
 add-i c = search needs

@@ -5,10 +5,11 @@ use mathlib.Core.List.{List}
 use Prim.Native.Nat.{ℕ, _+_, _*_, _-_, _≤_}
 use native.Mathlib.Omega.{arith}
 use lib.ListN.{length, getD, take, drop}
+use Rattle.lists.specs.Laws.{all-front}
 use Rattle.walk.specs.Model.{noJob, spansOfAll}
-use Rattle.walk.specs.Walk.{Sends}
+use Rattle.walk.specs.Chunks.{Sends}
 use Rattle.timetable.specs.Model.{raised}
-use Rattle.timetable.specs.Begin.{job-has, jobs-none}
+use Rattle.timetable.specs.Begin.{jobs-none}
 use Rattle.timetable.specs.Raise.{job-most, raised-next, raises-next}
 use borrow.Author.Needs.{needs}
 use Rattle.timetable.proofs.begin.raised_all.Statement.{statement}
@@ -52,7 +53,7 @@ loop-again c =
     let l = c .before .before .before .loop in
     let h = c .before .before .loop-test .taken in
     let j = getD (a .t3) (l .i) noJob in
-    let s = job-has (a .t3) (a .count) (l .i) h (omega arith) (Sends (a .costs)) (c .before .before .before .before .pre .1 .sends) in
+    let s = all-front noJob (Sends (a .costs)) (a .t3) (a .count) (l .i) h (omega arith) (c .before .before .before .before .pre .1 .sends) in
     let r = c .raised-by .ensures in (
       omega arith,
       r .1,

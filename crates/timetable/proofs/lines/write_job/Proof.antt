@@ -14,22 +14,20 @@ use borrow.Fn.World.{World}
 use borrow.Kind.Num.{vAt}
 use borrow.Kind.Unit.{rUnit}
 use Rattle.shares.specs.declared.Costs.{Costs}
-use Rattle.shares.specs.Model.{finish}
-use Rattle.booking.specs.Best.{units}
 use Rattle.walk.specs.declared.Job.{Job}
 use Rattle.walk.specs.declared.Chunk.{Chunk}
 use Rattle.walk.specs.Model.{greatest}
-use Rattle.walk.specs.Walk.{Sends, ends-next}
-use Rattle.timetable.specs.Lines.{lineAt, linesFrom, Filled, job-next, job-written}
+use Rattle.walk.specs.Chunks.{Sends, linesFrom, latestFrom, ends-next, chunk-fits}
+use Rattle.timetable.specs.Lines.{Filled, job-next, job-written}
 use Rattle.timetable.proofs.WriteJob.{ps, Pre, Post}
 use Rattle.timetable.proofs.Chunks as slice
 use Rattle.timetable.proofs.Structs as S
 use Rattle.timetable.proofs.Value.{type, copied, dropped}
 use Rattle.timetable.proofs.Lent.{_▸_, word, u64, int, oAt, oFld, oInt, oUnit, free, spent, num, Knows, step, op, op-last, use-as, call, gone, then, go-on, leave, while, branch, end, test, Code, given, tables, Derived, Asked, proves}
-use Rattle.timetable.proofs.lines.line.Kinds as line-kinds
-use Rattle.timetable.proofs.lines.line.Reads as line-reads
-use Rattle.timetable.proofs.lines.line.Symbol as line
-use Rattle.timetable.proofs.lines.line.Met as line-thm
+use Rattle.walk.proofs.chunk_at.Kinds as chunk-kinds
+use Rattle.walk.proofs.chunk_at.Reads as chunk-reads
+use Rattle.walk.proofs.chunk_at.Symbol as chunk
+use Rattle.walk.proofs.chunk_at.Met as chunk-thm
 use Rattle.timetable.proofs.lines.count_of.Kinds as count-kinds
 use Rattle.timetable.proofs.lines.count_of.Reads as count-reads
 use Rattle.timetable.proofs.lines.count_of.Symbol as count
@@ -49,8 +47,8 @@ c = record { n = 1; ps = ps; r = rUnit; m = 0; fn = code.function; env = code.en
 abbrev derived : (w : World) → Derived w c
 derived w κs qs bs =
     let W = given w in
-    let to-line : Knows W (tables w code.env) 0 line-kinds.ps line-kinds.r line-reads.Asked line-reads.Learnt line.name =
-    record { known = line-reads.known w code.env line.name line.routine code.calls-timetable·lines·line (line-thm.met (w .𝓤) (w .H) (w .𝓜) (w .𝓖) (w .𝓡)) } in
+    let to-chunk : Knows W (tables w code.env) 0 chunk-kinds.ps chunk-kinds.r chunk-reads.Asked chunk-reads.Learnt chunk.name =
+    record { known = chunk-reads.known w code.env chunk.name chunk.routine code.calls-walk·chunk-at (chunk-thm.met (w .𝓤) (w .H) (w .𝓜) (w .𝓖) (w .𝓡)) } in
     let to-count : Knows W (tables w code.env) 0 count-kinds.ps count-kinds.r count-reads.Asked count-reads.Learnt count.name =
     record { known = count-reads.known w code.env count.name count.routine code.calls-timetable·lines·count-of (count-thm.met (w .𝓤) (w .H) (w .𝓜) (w .𝓖) (w .𝓡)) } in
     let to-start : Knows W (tables w code.env) 0 start-kinds.ps start-kinds.r start-reads.Asked start-reads.Learnt start.name =
@@ -65,13 +63,13 @@ derived w κs qs bs =
           let job = u .1 .1 .1 .1 .0 in
           let at = u .1 .1 .0 in
           (Filled (vs .0) (at + vs .2) (linesFrom (u .1 .1 .1 .0) job (vs .2) (vs .1)) (at + job .booking .count) ≡ Filled (u .1 .0 .now) (at + 0) (linesFrom (u .1 .1 .1 .0) job 0 (job .booking .start)) (at + job .booking .count))
-          × (vs .2 ≤ job .booking .count) × (length (vs .0) ≡ length (u .1 .0 .now)) × (finish (u .1 .1 .1 .0) (vs .1) (drop (vs .2) (units (job .booking))) ≤ greatest))
+          × (vs .2 ≤ job .booking .count) × (length (vs .0) ≡ length (u .1 .0 .now)) × (latestFrom (u .1 .1 .1 .0) job (vs .2) (vs .1) ≤ greatest))
           (λ u vs. u .1 .1 .1 .1 .0 .booking .count - vs .2) ▸
           -- _9 = i < count, or out of the loop
           op W sBool (lt unsigned) 9 (oAt 7 word int) (oAt 5 word int) (num W, refl) (num W, refl) (free W tyBool) refl (λ u. refl) (λ u. tt) ▸
           then W (branch W 9 (λ t. t) (test W) refl (gone W 9 tyBool (spent W sBool) ▸ go-on W) (gone W 9 tyBool (spent W sBool) ▸ leave W)) ▸
-          -- c = line(costs, job, i, from); out[at + i] = c
-          call W to-line 8 [] (record { pos = 3; st = []; d = 0; at = λ x. x }, (record { pos = 4; st = []; d = 0; at = λ x. x }, (vAt 7 (λ x. x), (vAt 6 (λ x. x), tt)))) ((copied W S.costs, refl), ((copied W S.job, refl), ((num W, refl), ((num W, refl), tt)))) (free W (type S.chunk)) tt refl ▸
+          -- c = chunk_at(costs, job, i, from); out[at + i] = c
+          call W to-chunk 8 [] (record { pos = 3; st = []; d = 0; at = λ x. x }, (record { pos = 4; st = []; d = 0; at = λ x. x }, (vAt 7 (λ x. x), (vAt 6 (λ x. x), tt)))) ((copied W S.costs, refl), ((copied W S.job, refl), ((num W, refl), ((num W, refl), tt)))) (free W (type S.chunk)) tt refl ▸
           op W u64 (add unsigned) 10 (oAt 2 word int) (oAt 7 word int) (num W, refl) (num W, refl) (free W word) refl (λ u. refl) (λ u. tt) ▸
           op W u64 (mul unsigned) 11 (oAt 10 word int) (oInt w64 56) (num W, refl) tt (free W word) refl (λ u. refl) (λ u. tt) ▸
           op W sPtr offset 12 (oFld 1 (field 0 ∷ []) slice.ref 0 ptrVal) (oAt 11 word int) (slice.pointer W, refl) (num W, refl) (free W tyPtr) refl (λ u. refl) (λ u. tt) ▸
@@ -108,7 +106,7 @@ asked w κs qs a good within bs =
               ap (λ (t : ℕ). Filled (now out) (at + 0) (linesFrom costs job 0 t) (at + count)) (f .5),
               zero-le,
               refl,
-              subst (λ (t : ℕ). finish costs t (units (job .booking)) ≤ greatest) (sym (f .5)) (sends .ends),
+              subst (λ (t : ℕ). latestFrom costs job 0 t ≤ greatest) (sym (f .5)) (sends .ends),
             ),
           ),
           λ vs inv.
@@ -119,11 +117,10 @@ asked w κs qs a good within bs =
               let whole = inv .0 in (
                 tt,
                 (
-                  -- a turn, with g .1 the line, and what `line` says of it
+                  -- a turn, with g .1 the chunk, and what `chunk_at` says of it
                   λ taken.
-                      let more : i < count = subst (λ (k : ℕ). i < k) (n .5) (ltb-true i (n .1) taken) in
-                      let next = ends-next costs (job .booking .nodes) (job .booking .shares) count i more (sends .nodes) (sends .shares) from (inv .3) in (
-                        λ _. (omega (arith, sends .few), next .0),
+                      let more : i < count = subst (λ (k : ℕ). i < k) (n .5) (ltb-true i (n .1) taken) in (
+                        λ _. chunk-fits costs job sends i from more (inv .3),
                         λ g. (
                           record { fits = omega arith },
                           (
@@ -144,7 +141,7 @@ asked w κs qs a good within bs =
                                         ap (λ (x : Chunk). Filled (set l (at + i) x) (at + (i + 1)) (linesFrom costs job (i + 1) (x .sent)) (at + count)) (g .5) ∙ sym (job-next costs job sends at l (omega arith) i from more) ∙ inv .0,
                                         omega arith,
                                         length-set l (at + i) (g .1) ∙ same,
-                                        subst (λ (x : Chunk). finish costs (x .sent) (drop (i + 1) (units (job .booking))) ≤ greatest) (sym (g .5)) (next .1),
+                                        subst (λ (x : Chunk). latestFrom costs job (i + 1) (x .sent) ≤ greatest) (sym (g .5)) (ends-next costs job sends i from more (inv .3) .1),
                                       ),
                                       refl,
                                     ),

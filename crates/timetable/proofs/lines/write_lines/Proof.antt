@@ -24,14 +24,14 @@ use borrow.Rule.LocalCopy.{t-val-copy}
 use borrow.Fn.World.{World}
 use borrow.Kind.Num.{vAt}
 use borrow.Kind.Unit.{rUnit}
-use Rattle.lists.specs.Laws.{All}
+use Rattle.lists.specs.Laws.{All, all-front}
 use Rattle.shares.specs.declared.Costs.{Costs}
 use Rattle.walk.specs.declared.Job.{Job}
 use Rattle.walk.specs.declared.Chunk.{Chunk}
 use Rattle.walk.specs.Model.{noJob, linesOf}
-use Rattle.walk.specs.Walk.{Sends}
+use Rattle.walk.specs.Chunks.{Sends}
 use Rattle.timetable.specs.Model.{linesOfAll}
-use Rattle.timetable.specs.Begin.{chunks, job-has, chunks-next}
+use Rattle.timetable.specs.Begin.{chunks, chunks-next}
 use Rattle.timetable.specs.Lines.{Filled, stored-next, all-stored, chunks-none, filled-length, job-lines}
 use Rattle.timetable.proofs.WriteJob as job
 use Rattle.timetable.proofs.WriteLines.{ps, Pre, Post}
@@ -134,7 +134,7 @@ asked w κs qs a good within bs =
               λ taken.
                   let more : k < count = ltb-true k count taken in
                   let job : Job = getD jobs k noJob in
-                  let sends : Sends costs job = job-has jobs count k more (omega arith) (Sends costs) (within .1) in
+                  let sends : Sends costs job = all-front noJob (Sends costs) jobs count k more (omega arith) (within .1) in
                   let room : at + job .booking .count + chunks (drop (k + 1) (take count jobs)) ≡ e = omega (arith, inv .3, chunks-next jobs count k more (omega arith)) in (
                     record { fits = omega arith },
                     (

@@ -1,0 +1,65 @@
+-- A job's chunks, one by one: when they can be worked out, and what the loops over them need of each.
+use mathlib.Core.Path.{_≡_, ap, sym, _∙_}
+use mathlib.Core.List.{List, [], _∷_}
+use Prim.Native.Nat.{ℕ, _+_, _≤_, _<_, max}
+use native.Mathlib.Numerals.{add-one}
+use native.Mathlib.Omega.{arith}
+use lib.ListN.{length, getD, take, drop, length-take, drop-of-length-le}
+use lib.Seq.{drop-cons, getD-take}
+use Rattle.lists.specs.Laws.{All, all-front}
+use Rattle.shares.specs.declared.Costs.{Costs}
+use Rattle.shares.specs.Model.{chunkFinish, finish}
+use Rattle.booking.specs.Best.{chosen, units}
+use Rattle.walk.specs.declared.Job.{Job}
+use Rattle.walk.specs.declared.Chunk.{Chunk}
+use Rattle.walk.specs.Model.{greatest, chunkAt, chunksFrom}
+
+-- a job whose chunks can be worked out: a share for each node, nodes that there are, and a finish within the time range, so that no sum on
+-- the way to it wraps
+pub record Sends (c : Costs) (j : Job) : Type 0 where
+  pub few : j .booking .count ≤ 64
+  pub nodes : length (chosen (j .booking)) ≡ j .booking .count
+  pub shares : length (units (j .booking)) ≡ j .booking .count
+  pub known : All (λ (k : ℕ). (1 ≤ k) × (k ≤ 64)) (chosen (j .booking))
+  pub ends : finish c (j .booking .start) (units (j .booking)) ≤ greatest
+
+-- the lines of a job from chunk i on, its send beginning at t
+abbrev pub linesFrom : Costs → Job → ℕ → ℕ → List Chunk
+linesFrom c j i t = chunksFrom c (j .number) (j .show) t (drop i (chosen (j .booking))) (drop i (units (j .booking)))
+
+-- their latest finish
+abbrev pub latestFrom : Costs → Job → ℕ → ℕ → ℕ
+latestFrom c j i t = finish c t (drop i (units (j .booking)))
+
+module _ (c : Costs) (j : Job) (s : Sends c j) (i t : ℕ) where
+  -- None is left at the end.
+  pub lines-none : j .booking .count ≤ i → linesFrom c j i t ≡ []
+  unfolding chunksFrom
+  lines-none h = rw (drop-of-length-le (chosen (j .booking)) {i = i} (omega (arith, s .nodes)), drop-of-length-le (units (j .booking)) {i = i} (omega (arith, s .shares)))
+
+  pub latest-none : j .booking .count ≤ i → latestFrom c j i t ≡ t
+  unfolding finish
+  latest-none h = rw (drop-of-length-le (units (j .booking)) {i = i} (omega (arith, s .shares)))
+
+  module _ (h : i < j .booking .count) where
+    -- The next chunk's node is one of 64.
+    pub node-known : (1 ≤ chunkAt c j i t .node) × (chunkAt c j i t .node ≤ 64)
+    node-known = all-front 0 (λ (k : ℕ). (1 ≤ k) × (k ≤ 64)) (j .booking .nodes) (j .booking .count) i h (omega (arith, s .nodes, length-take (j .booking .count) (j .booking .nodes))) (s .known)
+
+    -- It is followed by those of the next chunk on.
+    pub lines-next : linesFrom c j i t ≡ chunkAt c j i t ∷ linesFrom c j (i + 1) (chunkAt c j i t .sent)
+    unfolding chunksFrom
+    lines-next =
+        rw (drop-cons (chosen (j .booking)) i 0 (omega (arith, s .nodes)), drop-cons (units (j .booking)) i 0 (omega (arith, s .shares)), add-one i, getD-take (j .booking .count) (j .booking .nodes) i 0 h, getD-take (j .booking .count) (j .booking .shares) i 0 h)
+
+    -- The latest finish is its own or theirs.
+    pub latest-next : latestFrom c j i t ≡ max (chunkAt c j i t .finish) (latestFrom c j (i + 1) (chunkAt c j i t .sent))
+    unfolding finish
+    latest-next = rw (drop-cons (units (j .booking)) i 0 (omega (arith, s .shares)), add-one i, getD-take (j .booking .count) (j .booking .shares) i 0 h)
+
+    -- Where they finish within the time range, so does it, and its sums do not wrap.
+    pub ends-next : latestFrom c j i t ≤ greatest → (chunkAt c j i t .finish ≤ greatest) × (latestFrom c j (i + 1) (chunkAt c j i t .sent) ≤ greatest)
+    ends-next e = let n = latest-next in (omega arith, omega arith)
+
+    pub chunk-fits : latestFrom c j i t ≤ greatest → (i < 64) × (chunkAt c j i t .finish < 18446744073709551616)
+    chunk-fits e = (omega (arith, s .few), omega (arith, ends-next e .0))
