@@ -1,11 +1,11 @@
 -- Demand 3, its sentences beside the parts of the claim (`Demand3` below; `demand3` at the end is the theorem):
 --   "For every list of offers and clock moves, refused ones included, after a granted opening, each call given the farm
---    that the one before it handed back,"                                             demand3, over `run` (Lists.antt)
+--    that the one before it handed back,"                                             demand3, over `run` (CallLists.antt)
 --   "no accepted job is late."                                                        each, due
 --   "Its chunks are issued, each once, all by the first granted clock move after its acceptance to reach the start it
---    has at that move,"                                                               stories (`Lifecycle` in Lists.antt)
+--    has at that move,"                                                               stories (`Lifecycle` in CallLists.antt)
 --   "and no others are ever issued."                                                  only
---   "They add up to its size, end by its deadline,"                                   each (`Fulfils` in Lists.antt)
+--   "They add up to its size, end by its deadline,"                                   each (`Fulfils` in CallLists.antt)
 --   "and have been issued once the clock has reached that deadline."                  due
 --   "No later call alters an issued chunk."                                           unaltered
 --   "No two chunks, issued or booked, are on one node, and no two of their sends on the link, in the same tick."   apart
@@ -48,7 +48,7 @@ use Rattle.demands.specs.JobNumbers.{numberOfJob}
 use Rattle.demands.specs.MovePasses.{Waiting, waiting-jobs, booked-chain}
 use Rattle.demands.specs.Outcome.{taken, Takes, Moves, outcome}
 use Rattle.demands.specs.Invariant.{idle, Whole, Inv, plan-accepted, whole-proper, open-inv, note-inv, run-inv}
-use Rattle.demands.specs.Lifecycles.{spans-named, none-of-jobs, lines-none, lines-own, whole-fulfils, spans-first, waits-as, NoLongerWaits, issues-no-more, begun-no-longer-waits, front-differ, none-before, Among, story}
+use Rattle.demands.specs.Lifecycles.{spans-named, none-of-jobs, lines-none, lines-own, whole-fulfils, spans-first, waits-as, NoLongerWaits, issues-no-more, begun-no-longer-waits, front-differ, none-before, Among, lifecycle}
 
 -- ---- The claim
 
@@ -333,7 +333,7 @@ demand3 n c al e cs =
       stories = λ before x after h.
           let v = run (opening f) before in
           let j : Inv (run (opening f) before) = run-inv (opening f) before o in
-          all-map (λ y m. story y (note v x) after (note-inv v x j) m) (jobsBy (v .farm) x) (new-among (v .farm) x (j .sized));
+          all-map (λ y m. lifecycle y (note v x) after (note-inv v x j) m) (jobsBy (v .farm) x) (new-among (v .farm) x (j .sized));
       only = only-jobs w i;
       unaltered = λ before x after h. issued-issues-none (run (opening f) before) x after (run-inv (opening f) before o);
       apart = all-apart w i;

@@ -108,11 +108,11 @@ open-inv n c al e =
 
 -- ---- A world by its parts
 
-abbrev worldOf : Farm → List Span → List Accepted → List Job → ℕ → History
-worldOf f l j p t = record { farm = f; lines = l; jobs = j; latest = p; time = t }
+abbrev historyOf : Farm → List Span → List Accepted → List Job → ℕ → History
+historyOf f l j p t = record { farm = f; lines = l; jobs = j; latest = p; time = t }
 
 -- Worlds with the same parts are the same.
-same-world : {f g : Farm} {k l : List Span} {i j : List Accepted} {p q : List Job} {t u : ℕ} → f ≡ g → k ≡ l → i ≡ j → p ≡ q → t ≡ u → worldOf f k i p t ≡ worldOf g l j q u
+same-world : {f g : Farm} {k l : List Span} {i j : List Accepted} {p q : List Job} {t u : ℕ} → f ≡ g → k ≡ l → i ≡ j → p ≡ q → t ≡ u → historyOf f k i p t ≡ historyOf g l j q u
 same-world a b c d e = rw (a, b, c, d, e)
 
 -- ---- A refused call
@@ -133,7 +133,7 @@ plan-accepted w b (j ∷ js) = ap (λ (l : List Accepted). acceptedOf j ∷ l) (
 
 module _ (w : History) (s z d : ℕ) where
   abbrev offered : History
-  offered = worldOf (withPlan (w .farm) (planned (w .farm) s z d)) (w .lines) (w .jobs ++ taken (w .farm) s z d ∷ []) (planned (w .farm) s z d) (w .time)
+  offered = historyOf (withPlan (w .farm) (planned (w .farm) s z d)) (w .lines) (w .jobs ++ taken (w .farm) s z d ∷ []) (planned (w .farm) s z d) (w .time)
 
   takes-note : Takes (w .farm) s z d → note w (offer s z d) ≡ offered
   takes-note k = same-world (k .hands) (append-nil (w .lines)) (ap (λ (l : List Accepted). w .jobs ++ l) (k .jobs)) (k .latest (w .latest)) refl
@@ -220,7 +220,7 @@ held-limit c n s js h k =
 
 module _ (w : History) (t : ℕ) (m : List Chunk) where
   abbrev moved : History
-  moved = worldOf (movedFarm (w .farm) t) (w .lines ++ spansOfAll (w .farm .costs) (begun (w .farm) t)) (w .jobs) (w .latest) t
+  moved = historyOf (movedFarm (w .farm) t) (w .lines ++ spansOfAll (w .farm .costs) (begun (w .farm) t)) (w .jobs) (w .latest) t
 
   moves-note : Moves (w .farm) t m → note w (move t m) ≡ moved
   moves-note k = same-world (k .hands) (ap (λ (l : List Span). w .lines ++ l) (k .lines)) (append-nil (w .jobs)) refl (k .time (w .time))

@@ -63,7 +63,7 @@ module _ (f : Farm) (sized : Sized f) (e : passesOf f ≡ true) where
   waiting-differ = passes-iff f sized .0 e .sound .differ
 
   module _ (t : ℕ) where
-    -- A move leaves the chain as it is and moves the seam.
+    -- A move leaves the chain as it is, and what it begins is a front of it.
     pub moved-chain : Chain (busyOf f) (spansOfAll (f .costs) (begun f t)) × Chain (afters (busyOf f) (issued f t)) (spansOfAll (f .costs) (later f t))
     moved-chain =
         let c = f .costs in

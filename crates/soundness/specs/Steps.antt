@@ -1,7 +1,7 @@
 -- What the functions promise each other: what each turn of the loops keeps, and that no sum wraps.
 use Prim.Native.Nat.{ℕ, suc, max, _+_, _*_, _-_, _≤_, _<_}
 use mathlib.Core.Path.{_≡_, refl, ap, subst, _∙_}
-use mathlib.Core.List.{List, [], _∷_, _++_, map}
+use mathlib.Core.List.{List, [], _∷_, _++_}
 use mathlib.Core.Bool.{Bool, true, false, _&&_, not, and-false}
 use native.Mathlib.Numerals.{add-one}
 use native.Mathlib.Omega.{arith}
@@ -14,30 +14,34 @@ use Rattle.lists.specs.Laws.{All, all-map, all-nth}
 use Rattle.shares.specs.declared.Costs.{Costs}
 use Rattle.shares.specs.Model.{sendEnd, chunkFinish, finish, sum}
 use Rattle.limits.specs.Model.{allAtMost, allAtLeast, CostsWithin}
-use Rattle.limits.specs.Says.{says-at-most}
-use Rattle.limits.specs.Tests.{and-both, at-most-at}
 use Rattle.keys.specs.declared.Key.{Key}
 use Rattle.keys.specs.Model.{noKey}
-use Rattle.booking.specs.declared.Booking.{Booking}
 use Rattle.booking.specs.Best.{freeAt, chosen, units}
 use Rattle.walk.specs.declared.Job.{Job}
 use Rattle.walk.specs.declared.Busy.{Busy}
 use Rattle.walk.specs.declared.Chunk.{Chunk}
-use Rattle.walk.specs.Model.{greatest, noJob, chunksFrom, Span, spansOf, spansOfAll, keysBy, startOf, byStart, inOrder, fitAll}
+use Rattle.walk.specs.Model.{greatest, noJob, chunkAt, Span, placed, spansOf, spansOfAll, after, keysBy, startOf, byStart, inOrder, fitAll}
+use Rattle.walk.specs.Chunks.{Sends, linesFrom, lines-next, lines-none}
 use Rattle.soundness.specs.declared.Figures.{Figures}
 use Rattle.soundness.specs.declared.Fit.{Fit}
 use Rattle.soundness.specs.declared.Survey.{Survey}
 use Rattle.soundness.specs.Model.{noneOf, allDiffer, numbersOf, nodesKnown, jobWithin, sharesKept, jobKept, jobPasses, jobsPass, waitingPass}
-use Rattle.soundness.specs.Sound.{Usable, says-job-within}
+use Rattle.soundness.specs.Sound.{Usable, says-job-within, says-jobs}
 
 -- ---- Promises
 
--- a job whose sends and finishes do not wrap, and whose nodes have free times
+-- a job whose sends and finishes up to the first that is late do not wrap
 pub record NoOverflow (c : Costs) (j : Job) : Type 0 where
   pub costs : CostsWithin c
   pub start : j .booking .start ≤ greatest
+  pub deadline : j .deadline ≤ greatest
   pub count : j .booking .count ≤ 64
-  pub nodes : (i : ℕ) → i < j .booking .count → getD (j .booking .nodes) i 0 ≤ 64
+
+-- a job that passes by itself: its nodes have free times, and no finish is past the time range
+pub record Bounded (c : Costs) (j : Job) : Type 0 where
+  pub count : j .booking .count ≤ 64
+  pub nodes : All (λ (k : ℕ). (1 ≤ k) × (k ≤ 64)) (chosen (j .booking))
+  pub ends : finish c (j .booking .start) (units (j .booking)) ≤ greatest
 
 -- what a survey of the first n jobs comes to
 pub record Surveys (g : Figures) (js : List Job) (n : ℕ) (r : Survey) : Type 0 where
@@ -56,10 +60,15 @@ pub record FitResult (c : Costs) (b : Busy) (j : Job) (r : Fit) : Type 0 where
 -- ---- Sums
 
 -- 2^32 - 1 units at a million ticks each
-pub product-small : (u e : ℕ) → u < 4294967296 → e ≤ 1000000 → u * e ≤ 4294967295000000
+product-small : (u e : ℕ) → u < 4294967296 → e ≤ 1000000 → u * e ≤ 4294967295000000
 product-small u e h k =
     let p : u * e ≤ u * 1000000 = mul-le-mul-left u k in
     omega arith
+
+-- The finish of a chunk of fewer than 2^32 units that is sent within the time range does not wrap.
+pub finish-small : (c : Costs) (t a : ℕ) → CostsWithin c → t ≤ greatest → a < 4294967296 → chunkFinish c t a < 18446744073709551616
+finish-small c t a w h k =
+    omega (arith, product-small a (c .send) k (omega (arith, w .send .1)), product-small a (c .compute) k (w .compute .1), w .linksetup, w .nodesetup)
 
 -- ---- The nodes of a booking
 
@@ -127,14 +136,18 @@ module _ (c : Costs) (z d s t : ℕ) (us : List ℕ) (i n : ℕ) (h : i < n) (k 
   pub shares-late : d < chunkFinish c t (getD us i 0) → keptBehind c z d s t (slice i n us) ≡ false
   shares-late l = rw (slice-cons i n us 0 h k) (kept-late c z d s t (getD us i 0) (slice (suc i) n us) l)
 
-  -- The same with what the code works out.
-  pub shares-step : (a sent ends : ℕ) → a ≡ getD us i 0 → sent ≡ sendEnd c t a → ends ≡ sent + (c .nodesetup + a * c .compute) → 1 ≤ a → ends ≤ d
-      → keptBehind c z d s t (slice i n us) ≡ keptBehind c z d (s + a) sent (slice (i + 1) n us)
-  shares-step a sent ends e f g l m = rw (f, e) (shares-more (rw e at l) (rw (g, f, e) at m))
+-- The same of a job, with the chunk that the code makes.
+module _ (c : Costs) (j : Job) (s t i : ℕ) (h : i < j .booking .count) (k : j .booking .count ≤ length (j .booking .shares)) (x : Chunk) (e : x ≡ chunkAt c j i t) where
+  pub shares-step : (a : ℕ) → a ≡ getD (j .booking .shares) i 0 → 1 ≤ a → x .finish ≤ j .deadline
+      → keptBehind c (j .size) (j .deadline) s t (slice i (j .booking .count) (j .booking .shares)) ≡ keptBehind c (j .size) (j .deadline) (s + a) (x .sent) (slice (i + 1) (j .booking .count) (j .booking .shares))
+  shares-step a q l m = rw (e, q) (shares-more c (j .size) (j .deadline) s t (j .booking .shares) i (j .booking .count) h k (rw q at l) (rw e at m))
 
-  pub shares-over : (a sent ends : ℕ) → a ≡ getD us i 0 → sent ≡ sendEnd c t a → ends ≡ sent + (c .nodesetup + a * c .compute) → d < ends
-      → keptBehind c z d s t (slice i n us) ≡ false
-  shares-over a sent ends e f g m = shares-late (rw (g, f, e) at m)
+  pub shares-over : j .deadline < x .finish → keptBehind c (j .size) (j .deadline) s t (slice i (j .booking .count) (j .booking .shares)) ≡ false
+  shares-over m = shares-late c (j .size) (j .deadline) s t (j .booking .shares) i (j .booking .count) h k (rw e at m)
+
+  -- Its send ends by its finish.
+  pub sent-finish : x .sent ≤ x .finish
+  sent-finish = rw e (omega arith)
 
 pub shares-none : (c : Costs) (z d s t : ℕ) (us : List ℕ) (n : ℕ) → keptBehind c z d s t (slice n n us) ≡ eqb s z && leb t d
 unfolding keptBehind allAtLeast sum finish
@@ -146,13 +159,26 @@ shares-none c z d s t us n = let e : s + 0 ≡ s = omega arith in rw (slice-empt
 pub no-overflow-of : (g : Figures) (j : Job) → Usable g → jobWithin g j ≡ true → NoOverflow (g .costs) j
 no-overflow-of g j u e =
     let w = says-job-within g j .yields e in
-    let low : allAtMost (g .nodes) (chosen (j .booking)) ≡ true = says-at-most (g .nodes) (chosen (j .booking)) .follows (all-map (λ k b. b .1) (chosen (j .booking)) (w .nodes)) in
-    record {
-      costs = u .costs;
-      start = w .start;
-      count = w .count .1;
-      nodes = λ i h. omega (arith, u .nodes, at-most-at (g .nodes) (chosen (j .booking)) i low, getD-take (j .booking .count) (j .booking .nodes) i 0 h);
-    }
+    record { costs = u .costs; start = w .start; deadline = w .deadline; count = w .count .1 }
+
+-- Jobs that pass by themselves finish within the time range.
+pub all-bounded : (g : Figures) (js : List Job) → Usable g → jobsPass g js ≡ true → All (Bounded (g .costs)) js
+all-bounded g js u e =
+    all-map (λ j h. record {
+      count = h .0 .count .1;
+      nodes = all-map (λ k b. (b .0, omega (arith, b .1, u .nodes))) (chosen (j .booking)) (h .0 .nodes);
+      ends = omega (arith, h .1 .ends, h .0 .deadline);
+    }) js (says-jobs g js .yields e)
+
+-- Their chunks can be worked out.
+pub bounded-sends : (c : Costs) (j : Job) → Bounded c j → length (j .booking .nodes) ≡ 64 → length (j .booking .shares) ≡ 64 → Sends c j
+bounded-sends c j b n u = record {
+  few = b .count;
+  nodes = length-take-le (j .booking .count) (j .booking .nodes) (omega (arith, b .count));
+  shares = length-take-le (j .booking .count) (j .booking .shares) (omega (arith, b .count));
+  known = b .nodes;
+  ends = b .ends;
+}
 
 -- A job's test ends at the first part that fails.
 pub job-out : (g : Figures) (j : Job) → jobWithin g j ≡ false → jobPasses g j ≡ false
@@ -167,13 +193,6 @@ pub job-whole : (g : Figures) (j : Job) → jobWithin g j ≡ true → g .clock 
     → jobPasses g j ≡ sharesKept (g .costs) (j .size) (j .deadline) (j .booking .start) (units (j .booking))
 unfolding jobPasses jobKept
 job-whole g j e h = rw (e, le-leb (g .clock) (j .booking .start) h)
-
-pub no-overflow-all : (g : Figures) (js : List Job) → Usable g → jobsPass g js ≡ true → All (NoOverflow (g .costs)) js
-unfolding jobsPass jobPasses
-no-overflow-all g [] u e = tt
-no-overflow-all g (j ∷ js) u e =
-    let p = and-both (jobWithin g j && jobKept g j) (jobsPass g js) e in
-    (no-overflow-of g j u (and-both (jobWithin g j) (jobKept g j) (p .0) .0), no-overflow-all g js u (p .1))
 
 module _ (g : Figures) (jobs : List Job) (i n : ℕ) (h : i < n) (k : n ≤ length jobs) where
   pass-cons : jobsPass g (slice i n jobs) ≡ jobPasses g (getD jobs i noJob) && jobsPass g (slice (i + 1) n jobs)
@@ -238,78 +257,36 @@ differ-none xs = rw (drop-length xs)
 
 -- ---- The chunks of a job behind the free times
 
--- the spans of shares on nodes, from t on, of a job that starts at p
-abbrev pub spansFrom : Costs → ℕ → ℕ → ℕ → ℕ → List ℕ → List ℕ → List Span
-spansFrom c n s p t ks us = map (λ (x : Chunk). record { from = p; chunk = x }) (chunksFrom c n s t ks us)
+-- Of a job's chunks those from the i-th on are left, behind `now`, the next one sent from t on: whether all fit behind `busy` is whether these fit
+-- behind `now`, whatever follows.
+pub record Fitting (c : Costs) (busy : Busy) (j : Job) (now : Busy) (t i : ℕ) : Type 0 where
+  pub rest : (xs : List Span) → fitAll busy (spansOf c j ++ xs) ≡ fitAll now (placed (j .booking .start) (linesFrom c j i t) ++ xs)
 
--- what a chunk of `a` units that is sent from t on to node k leaves
-abbrev pub sentTo : Costs → Busy → ℕ → ℕ → ℕ → Busy
-sentTo c b t k a = record { link = sendEnd c t a; free = set (b .free) (k - 1) (chunkFinish c t a) }
+pub fitting-start : (c : Costs) (busy : Busy) (j : Job) → Fitting c busy j busy (j .booking .start) 0
+fitting-start c busy j = record { rest = λ xs. refl }
 
-span-cons : (c : Costs) (n s p : ℕ) (b : Busy) (t k a : ℕ) (ks us : List ℕ) (xs : List Span)
-    → fitAll b (spansFrom c n s p t (k ∷ ks) (a ∷ us) ++ xs) ≡ leb (b .link) t && leb (freeAt (b .free) k) p && fitAll (sentTo c b t k a) (spansFrom c n s p (sendEnd c t a) ks us ++ xs)
-unfolding chunksFrom fitAll
-span-cons c n s p b t k a ks us xs = refl
+module _ (c : Costs) (busy : Busy) (j : Job) (now : Busy) (t i : ℕ) (u : Fitting c busy j now t i) (s : Sends c j) where
+  module _ (h : i < j .booking .count) (x : Chunk) (e : x ≡ chunkAt c j i t) where
+    fit-next : (xs : List Span)
+        → fitAll busy (spansOf c j ++ xs) ≡ leb (now .link) t && leb (freeAt (now .free) (x .node)) (j .booking .start) && fitAll (after now x) (placed (j .booking .start) (linesFrom c j (i + 1) (x .sent)) ++ xs)
+    unfolding fitAll
+    fit-next xs = u .rest xs ∙ rw (e, lines-next c j s i t h)
 
-module _ (c : Costs) (n s p : ℕ) (b : Busy) (t : ℕ) (ks us : List ℕ) (xs : List Span) (i m : ℕ) (h : i < m) (k : m ≤ length ks) (l : m ≤ length us) where
-  spans-cons : fitAll b (spansFrom c n s p t (slice i m ks) (slice i m us) ++ xs)
-      ≡ leb (b .link) t && leb (freeAt (b .free) (getD ks i 0)) p && fitAll (sentTo c b t (getD ks i 0) (getD us i 0)) (spansFrom c n s p (sendEnd c t (getD us i 0)) (slice (i + 1) m ks) (slice (i + 1) m us) ++ xs)
-  spans-cons =
-      rw (add-one, slice-cons i m ks 0 h k, slice-cons i m us 0 h l)
-      (span-cons c n s p b t (getD ks i 0) (getD us i 0) (slice (suc i) m ks) (slice (suc i) m us) xs)
+    -- The next chunk fits.
+    pub fitting-more : now .link ≤ t → freeAt (now .free) (x .node) ≤ j .booking .start → Fitting c busy j (after now x) (x .sent) (i + 1)
+    fitting-more p q = record { rest = λ xs. fit-next xs ∙ rw (le-leb (now .link) t p, le-leb (freeAt (now .free) (x .node)) (j .booking .start) q) }
 
-  pub spans-more : b .link ≤ t → freeAt (b .free) (getD ks i 0) ≤ p
-      → fitAll b (spansFrom c n s p t (slice i m ks) (slice i m us) ++ xs) ≡ fitAll (sentTo c b t (getD ks i 0) (getD us i 0)) (spansFrom c n s p (sendEnd c t (getD us i 0)) (slice (i + 1) m ks) (slice (i + 1) m us) ++ xs)
-  spans-more u v = spans-cons ∙ rw (le-leb (b .link) t u, le-leb (freeAt (b .free) (getD ks i 0)) p v)
+    -- Its send overlaps.
+    pub fitting-link : t < now .link → FitResult c busy j (record { fits = false; busy = busy })
+    fitting-link p = record { rest = λ xs. fit-next xs ∙ rw (lt-leb (now .link) t p) }
 
-  pub spans-link : t < b .link → fitAll b (spansFrom c n s p t (slice i m ks) (slice i m us) ++ xs) ≡ false
-  spans-link u = spans-cons ∙ rw (lt-leb (b .link) t u)
+    -- Its node is not free.
+    pub fitting-node : j .booking .start < freeAt (now .free) (x .node) → FitResult c busy j (record { fits = false; busy = busy })
+    fitting-node p = record { rest = λ xs. fit-next xs ∙ rw (lt-leb (freeAt (now .free) (x .node)) (j .booking .start) p, and-false) }
 
-  pub spans-node : p < freeAt (b .free) (getD ks i 0) → fitAll b (spansFrom c n s p t (slice i m ks) (slice i m us) ++ xs) ≡ false
-  spans-node u = spans-cons ∙ rw (lt-leb (freeAt (b .free) (getD ks i 0)) p u, and-false)
-
-pub spans-none : (c : Costs) (n s p t : ℕ) (ks us : List ℕ) (m : ℕ) (xs : List Span) → spansFrom c n s p t (slice m m ks) (slice m m us) ++ xs ≡ xs
-unfolding chunksFrom
-spans-none c n s p t ks us m xs = rw (slice-empty m ks, slice-empty m us)
-
--- Of a booking's chunks those from the i-th on are left, behind `now`, the next one sent from t on: whether all fit behind `busy` is whether
--- these fit behind `now`, whatever follows.
-pub record Fitting (c : Costs) (busy : Busy) (b : Booking) (now : Busy) (t i : ℕ) : Type 0 where
-  pub rest : (n s : ℕ) (xs : List Span)
-      → fitAll busy (spansFrom c n s (b .start) (b .start) (chosen b) (units b) ++ xs) ≡ fitAll now (spansFrom c n s (b .start) t (slice i (b .count) (b .nodes)) (slice i (b .count) (b .shares)) ++ xs)
-
-pub fitting-start : (c : Costs) (busy : Busy) (b : Booking) → Fitting c busy b busy (b .start) 0
-fitting-start c busy b = record { rest = λ n s xs. refl }
-
-module _ (c : Costs) (busy : Busy) (b : Booking) (now : Busy) (t i : ℕ) (u : Fitting c busy b now t i) (h : i < b .count) (k : b .count ≤ length (b .nodes)) (l : b .count ≤ length (b .shares)) where
-  -- The next chunk fits.
-  pub fitting-more : now .link ≤ t → freeAt (now .free) (getD (b .nodes) i 0) ≤ b .start
-      → Fitting c busy b (sentTo c now t (getD (b .nodes) i 0) (getD (b .shares) i 0)) (sendEnd c t (getD (b .shares) i 0)) (i + 1)
-  fitting-more p q = record { rest = λ n s xs. u .rest n s xs ∙ spans-more c n s (b .start) now t (b .nodes) (b .shares) xs i (b .count) h k l p q }
-
-  -- The same with what the code works out.
-  pub fitting-step : (place a sent ends : ℕ) → place ≡ getD (b .nodes) i 0 - 1 → a ≡ getD (b .shares) i 0 → sent ≡ sendEnd c t a → ends ≡ sent + (c .nodesetup + a * c .compute)
-      → now .link ≤ t → getD (now .free) place 0 ≤ b .start → Fitting c busy b (record { link = sent; free = set (now .free) place ends }) sent (i + 1)
-  fitting-step place a sent ends d e f g p q = rw (g, f, e, d) (fitting-more p (rw d at q))
-
-  -- Its send overlaps.
-  pub fitting-link : (r : Fit) (j : Job) → r .fits ≡ false → j .booking ≡ b → t < now .link → FitResult c busy j r
-  fitting-link r j e o p = record {
-    rest = λ xs. rw (o, e) (u .rest (j .number) (j .show) xs ∙ spans-link c (j .number) (j .show) (b .start) now t (b .nodes) (b .shares) xs i (b .count) h k l p);
-  }
-
-  -- Its node is not free.
-  pub fitting-node : (r : Fit) (j : Job) → r .fits ≡ false → j .booking ≡ b → b .start < freeAt (now .free) (getD (b .nodes) i 0) → FitResult c busy j r
-  fitting-node r j e o p = record {
-    rest = λ xs. rw (o, e) (u .rest (j .number) (j .show) xs ∙ spans-node c (j .number) (j .show) (b .start) now t (b .nodes) (b .shares) xs i (b .count) h k l p);
-  }
-
--- All chunks fit.
-pub fitting-none : (c : Costs) (busy : Busy) (j : Job) (now : Busy) (t i : ℕ) → Fitting c busy (j .booking) now t i → i ≡ j .booking .count
-    → FitResult c busy j (record { fits = true; busy = now })
-fitting-none c busy j now t i u e =
-    let b = j .booking in
-    record { rest = λ xs. u .rest (j .number) (j .show) xs ∙ rw (e, spans-none c (j .number) (j .show) (b .start) t (b .nodes) (b .shares) (b .count) xs) }
+  -- All chunks fit.
+  pub fitting-all : j .booking .count ≤ i → FitResult c busy j (record { fits = true; busy = now })
+  fitting-all h = record { rest = λ xs. u .rest xs ∙ rw (lines-none c j s i t h) }
 
 -- ---- The jobs by their starts
 
@@ -318,9 +295,9 @@ module _ (c : Costs) (b : Busy) (jobs : List Job) (keys : List Key) (i n : ℕ) 
   key-inside =
       subst (Inside n) (getD-take n keys i noKey h) (all-nth noKey (Inside n) (take n keys) i inside (omega (arith, length-take-le n keys fits)))
 
-  pub key-no-overflow : All (NoOverflow c) (take n jobs) → NoOverflow c (getD jobs (getD keys i noKey .place) noJob)
-  key-no-overflow a =
-      subst (NoOverflow c) (getD-take n jobs (getD keys i noKey .place) noJob key-inside) (all-nth noJob (NoOverflow c) (take n jobs) (getD keys i noKey .place) a (omega (arith, length-take-le n jobs few, key-inside)))
+  pub key-bounded : All (Bounded c) (take n jobs) → Bounded c (getD jobs (getD keys i noKey .place) noJob)
+  key-bounded a =
+      subst (Bounded c) (getD-take n jobs (getD keys i noKey .place) noJob key-inside) (all-nth noJob (Bounded c) (take n jobs) (getD keys i noKey .place) a (omega (arith, length-take-le n jobs few, key-inside)))
 
   turn-cons : spansOfAll c (inOrder (take n jobs) (slice i n keys))
       ≡ spansOf c (getD jobs (getD keys i noKey .place) noJob) ++ spansOfAll c (inOrder (take n jobs) (slice (i + 1) n keys))

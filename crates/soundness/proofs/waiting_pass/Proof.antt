@@ -5,7 +5,7 @@ use native.Mathlib.Nat.{sub-zero}
 use borrow.Author.Tests.{not-true, not-false}
 use lib.ListN.{take}
 use Rattle.soundness.specs.Model.{allDiffer, numbersOf}
-use Rattle.soundness.specs.Steps.{no-overflow-all, waiting-unsound, waiting-twice, waiting-rest}
+use Rattle.soundness.specs.Steps.{all-bounded, waiting-unsound, waiting-twice, waiting-rest}
 use borrow.Author.Needs.{needs}
 use Rattle.soundness.proofs.waiting_pass.Statement.{statement}
 use Rattle.soundness.proofs.waiting_pass.Tie as tie
@@ -44,7 +44,7 @@ in-turn-requires c κs =
     let a = z .args in
     let survey = c .before .before .before .before .before .before .before .before .surveyed in
     let passed : survey .result .passes ≡ true = not-false _ (c .before .before .before .before .before .before .if1 .left) in
-    (z .pre .1, no-overflow-all (a .figures) (take (a .count) (a .jobs)) (z .pre .0) (sym (survey .ensures .tells) ∙ passed), survey .ensures .keys passed)
+    (z .pre .1, all-bounded (a .figures) (take (a .count) (a .jobs)) (z .pre .0) (sym (survey .ensures .tells) ∙ passed), survey .ensures .keys passed)
 
 returns-3 : tie.Need-returns-3
 returns-3 c =
