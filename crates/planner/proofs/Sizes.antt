@@ -10,7 +10,7 @@ use denote.Laws.{Is}
 use denote.Struct.Field.{u8-field, u32-field}
 use denote.Struct.Declared.{row}
 use Rattle.planner.specs.declared.Farm.{Farm}
-use Rattle.lists.specs.Laws.{All, all-map}
+use Rattle.lists.specs.Laws.{All, all-map, image-all}
 use Rattle.walk.specs.declared.Job.{Job}
 use Rattle.planner.specs.Model.{JobSized, Sized}
 use Rattle.walk.proofs.Job as job
@@ -28,10 +28,6 @@ each-all P f h [] us s = tt
 each-all P f h (x ∷ xs) [] s = absurd s
 each-all P f h (x ∷ xs) (u ∷ us) s = (h x (u ∷ []) (s .0), each-all P f h xs us (s .1))
 
-of-image : {A B : Type 0} (P : B → Type 0) (g : A → B) (xs : List A) → All P (map g xs) → All (λ (x : A). P (g x)) xs
-of-image P g [] h = tt
-of-image P g (x ∷ xs) h = (h .0, of-image P g xs (h .1))
-
 -- a job as the array holds it
 abbrev Held : Type 0
 Held = job.the-field .row .Denot
@@ -48,7 +44,7 @@ job-sized j h = record { nodes = sym (length-map (j .booking .nodes) (u8-field .
 pub jobs-sized : {vs : List Val} (f : Farm) → Is (row farm.the-type) f vs → All JobSized (f .jobs)
 jobs-sized f p =
     all-map job-sized (f .jobs)
-    (of-image HeldSized (job.the-field .into) (f .jobs)
+    (image-all HeldSized (job.the-field .into) (f .jobs)
     (each-all HeldSized (job.the-field .row .own) held-sized (map (job.the-field .into) (f .jobs)) (p .1 .1 .1 .1 .1 .1 .1 .1 .1 .1 .1 .1 .1 .0 .0) (p .1 .1 .1 .1 .1 .1 .1 .1 .1 .1 .1 .1 .1 .0 .1 .1)))
 
 -- A farm's arrays have the lengths of its type.
