@@ -1,10 +1,10 @@
 -- The calls: what each answers, with the paper's number and values, and the farm that it hands back.
-use Prim.Native.Nat.{ℕ, zero, suc, _+_, _-_, max}
+use Prim.Native.Nat.{ℕ, _+_, _-_}
 use mathlib.Core.List.{List, [], _∷_, _++_}
 use mathlib.Core.Bool.{Bool, true, false, cond, _&&_}
 use mathlib.Core.Path.{_≡_}
 use lib.Dec.{leb, ltb, eqb}
-use lib.ListN.{length, getD, take, drop, replicate}
+use lib.ListN.{length, getD, drop, replicate}
 use Rattle.shares.specs.declared.Costs.{Costs}
 use Rattle.shares.specs.Model.{finish}
 use Rattle.booking.specs.Model.{bookingOf}

@@ -2,16 +2,15 @@
 -- Everything here is a definition; nothing is assumed. What begins by a time, lines and held ticks over lists of jobs are those of the crate timetable.
 pub use Rattle.timetable.specs.Model.{startsBy, startsAfter, holds}
 unfoldable pub use Rattle.timetable.specs.Model.{keep, linesOfAll, raised}
-use Prim.Native.Nat.{ℕ, _+_, _-_}
+use Prim.Native.Nat.{ℕ, _+_}
 use mathlib.Core.List.{List, [], _∷_, _++_}
-use mathlib.Core.Bool.{Bool, cond, not}
+use mathlib.Core.Bool.{cond}
 use lib.Dec.{leb, eqb}
-use lib.ListN.{length, getD, drop, set}
-use Rattle.shares.specs.declared.Costs.{Costs}
+use lib.ListN.{length, drop}
 use Rattle.walk.specs.declared.Job.{Job}
 use Rattle.walk.specs.declared.Chunk.{Chunk}
 use Rattle.planner.specs.declared.Farm.{Farm}
-use Rattle.planner.specs.Model.{greatest, between, linesOf, Span, spansOfAll, afters, byStart, waitingOf, busyOf}
+use Rattle.planner.specs.Model.{greatest, between, spansOfAll, afters, byStart, waitingOf, busyOf}
 use Rattle.planner.specs.Passes.{passesOf}
 use Rattle.planner.specs.Calls.{Said, granted, refused}
 

@@ -1,23 +1,8 @@
--- What a reader must believe is Model, Passes, Calls, Clock and Lists, and the claim that begins Demand3; the other files show what follows from them.
+-- What a reader must believe is Model, Passes, Calls and Clock; the others are what the functions need and promise each other.
 pub mod Model
 pub mod Passes
+pub mod PassesSteps
 pub mod Calls
+pub mod CallsSteps
 pub mod Clock
-pub mod Lists
-pub mod Rows
-pub mod Tests
-pub mod Sound
-pub mod Opening
-pub mod Asked
-pub mod Offer
-pub mod Kept
-pub mod Seam
-pub mod MoveKept
-pub mod Moving
-pub mod Starts
-pub mod Outcome
-pub mod Invariant
-pub mod Stories
-pub mod Demand1
-pub mod Demand3
-pub mod Listing
+pub mod ClockSteps

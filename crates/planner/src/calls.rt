@@ -3,7 +3,7 @@ ghost use mathlib.Core.Path.{_≡_};
 ghost use Prim.Native.Nat.{_-_, _≤_};
 ghost use mathlib.Core.List.{[], _∷_, _++_};
 ghost use lib.ListN.{length, getD, take, replicate};
-ghost use Rattle.planner.specs.Offer.{Offered, PlanWith, Accepting, Accepts};
+ghost use Rattle.planner.specs.CallsSteps.{Offered, PlanWith, Accepting, Accepts};
 ghost use Rattle.booking.specs.Model.{bookingOf};
 ghost use Rattle.planner.specs.Model.{emptyJob};
 ghost use Rattle.planner.specs.Calls.{said, granted, Replies, unopened, openSaid, openFarm, accountSaid, ofNumber, offerSaid, offerFarm};

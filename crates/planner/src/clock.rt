@@ -5,7 +5,7 @@ ghost use Prim.Native.Nat.{_≤_};
 ghost use lib.ListN.{length};
 ghost use Rattle.planner.specs.Calls.{Replies};
 ghost use Rattle.planner.specs.Clock.{moveSaid, moveFarm, moveMemory, shownSaid, shownMemory, movedFarm};
-ghost use Rattle.planner.specs.Moving.{clockAt, Begins, MoveIssues, ShowIssues};
+ghost use Rattle.planner.specs.ClockSteps.{clockAt, Begins, MoveIssues, ShowIssues};
 use crate::Answer;
 use crate::Farm;
 use crate::Question;

@@ -1,8 +1,7 @@
 // Question 11: whether a farm is opened, each of its figures is within its limits, and its waiting bookings are sound.
 // Nothing is taken for granted of the farm.
 ghost use mathlib.Core.Path.{_≡_};
-ghost use Rattle.planner.specs.Passes.{passesOf};
-ghost use Rattle.planner.specs.Tests.{countsWithin, timesWithin};
+ghost use Rattle.planner.specs.Passes.{countsWithin, timesWithin, passesOf};
 use crate::Farm;
 use limits::all_at_most;
 use limits::and;
@@ -11,9 +10,7 @@ use limits::between;
 use limits::costs_within;
 use numbers::wide;
 use soundness::Figures;
-use soundness::all_differ;
-use soundness::in_turn;
-use soundness::surveyed;
+use soundness::waiting_pass;
 use walk::Busy;
 
 // ---- The farm's figures
@@ -67,21 +64,11 @@ pub fn passes(farm: Farm) -> bool
         clock: farm.clock,
         costs,
     };
-    let jobs = farm.jobs;
-    let n = farm.waiting;
-    let survey = surveyed(figures, jobs, n);
-    if !survey.passes {
-        return false;
-    }
-    let numbers = survey.numbers;
-    if !all_differ(&numbers[0..n]) {
-        return false;
-    }
-    let keys = survey.keys;
     let free = farm.free;
     let busy = Busy {
         link: farm.link,
         free,
     };
-    in_turn(costs, busy, jobs, keys, n)
+    let jobs = farm.jobs;
+    waiting_pass(figures, busy, jobs, farm.waiting)
 }

@@ -1,4 +1,5 @@
--- The contracts cite Model; the other files show what follows from it.
+-- What a reader must believe is Model; Sound shows that the test there says what the paper asks, and Steps is what the functions promise each other.
 pub mod Model
-pub mod Tests
 pub mod Sweep
+pub mod Sound
+pub mod Steps

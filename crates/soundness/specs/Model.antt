@@ -1,22 +1,22 @@
--- Question 11 asked of the waiting jobs alone, as the code takes it: job by job against a few figures, and chunk by chunk behind the free times.
--- Everything here is a definition; nothing is assumed. What it says in the paper's words is shown in the crate planner.
-use Prim.Native.Nat.{ℕ, _+_, _≤_, _<_}
+-- Question 11 asked of the waiting jobs alone: first the test that runs, then what the paper asks. `says-waiting` in Sound.antt says that they are the
+-- same. Everything here is a definition; nothing is assumed.
+use Prim.Native.Nat.{ℕ, _≤_}
 use mathlib.Core.Path.{_≡_}
-use mathlib.Core.List.{List, [], _∷_, _++_, map}
+use mathlib.Core.List.{List, [], _∷_, map}
 use mathlib.Core.Bool.{Bool, true, _&&_, not}
 use lib.Dec.{leb, eqb}
-use lib.ListN.{length, getD, take}
+use Rattle.lists.specs.Laws.{All, Pairs, Differ}
 use Rattle.shares.specs.declared.Costs.{Costs}
 use Rattle.shares.specs.Model.{finish, sum}
-use Rattle.limits.specs.Model.{between, allAtMost, allAtLeast, CostsWithin}
-use Rattle.keys.specs.declared.Key.{Key}
-use Rattle.booking.specs.Best.{chosen, units}
+use Rattle.shares.specs.Lists.{Positive}
+use Rattle.limits.specs.Model.{between, allAtMost, allAtLeast, Between}
+use Rattle.booking.specs.Best.{freeAt, chosen, units}
 use Rattle.walk.specs.declared.Job.{Job}
 use Rattle.walk.specs.declared.Busy.{Busy}
-use Rattle.walk.specs.Model.{greatest, Span, spansOf, fitAll, keysBy, startOf}
+use Rattle.walk.specs.Model.{greatest, spansOfAll, byStart, fitAll, Apart}
 use Rattle.soundness.specs.declared.Figures.{Figures}
-use Rattle.soundness.specs.declared.Fit.{Fit}
-use Rattle.soundness.specs.declared.Survey.{Survey}
+
+-- ---- The test
 
 -- x is none of a list
 unfoldable pub noneOf : ℕ → List ℕ → Bool
@@ -27,58 +27,69 @@ unfoldable pub allDiffer : List ℕ → Bool
 allDiffer [] = true
 allDiffer (x ∷ xs) = noneOf x xs && allDiffer xs
 
+abbrev pub numbersOf : List Job → List ℕ
+numbersOf js = map (λ (j : Job). j .number) js
+
 -- every node is one of n
 abbrev pub nodesKnown : ℕ → List ℕ → Bool
 nodesKnown n ks = allAtLeast 1 ks && allAtMost n ks
 
--- shares xs from t on, behind s units: each at least 1, z units in all, and finished by d
-unfoldable pub sharesKept : Costs → ℕ → ℕ → ℕ → ℕ → List ℕ → Bool
-sharesKept c z d s t xs = allAtLeast 1 xs && eqb (s + sum xs) z && leb (finish c t xs) d
+-- the figures of a waiting job
+unfoldable pub jobWithin : Figures → Job → Bool
+jobWithin g j =
+    between 1 (j .number) (g .used)
+    && between 1 (j .show) (g .shows)
+    && between 1 (j .size) 1_000_000
+    && leb (j .deadline) greatest
+    && leb (j .booking .start) greatest
+    && between 1 (j .booking .count) 64
+    && nodesKnown (g .nodes) (chosen (j .booking))
 
--- a job's figures: what its offer fixed, its start and count, and its nodes
-abbrev pub offerWithin : Figures → Job → Bool
-offerWithin g j = between 1 (j .number) (g .used) && between 1 (j .show) (g .shows) && between 1 (j .size) 1_000_000 && leb (j .deadline) greatest
+-- shares xs sent from t on: each at least 1, z units in all, and finished by d
+unfoldable pub sharesKept : Costs → ℕ → ℕ → ℕ → List ℕ → Bool
+sharesKept c z d t xs = allAtLeast 1 xs && eqb (sum xs) z && leb (finish c t xs) d
 
-abbrev pub headFront : Figures → Job → Bool
-headFront g j = offerWithin g j && leb (j .booking .start) greatest && between 1 (j .booking .count) 64
-
-unfoldable pub headWithin : Figures → Job → Bool
-headWithin g j = headFront g j && nodesKnown (g .nodes) (chosen (j .booking))
+-- a waiting job by itself: its start not before the clock, its shares, and its finish
+unfoldable pub jobKept : Figures → Job → Bool
+jobKept g j = leb (g .clock) (j .booking .start) && sharesKept (g .costs) (j .size) (j .deadline) (j .booking .start) (units (j .booking))
 
 unfoldable pub jobPasses : Figures → Job → Bool
-jobPasses g j =
-    headWithin g j
-    && (leb (g .clock) (j .booking .start) && sharesKept (g .costs) (j .size) (j .deadline) 0 (j .booking .start) (units (j .booking)))
+jobPasses g j = jobWithin g j && jobKept g j
 
-unfoldable pub allPass : Figures → List Job → Bool
-allPass g [] = true
-allPass g (j ∷ js) = jobPasses g j && allPass g js
+unfoldable pub jobsPass : Figures → List Job → Bool
+jobsPass g [] = true
+jobsPass g (j ∷ js) = jobPasses g j && jobsPass g js
 
-abbrev pub numbersOf : List Job → List ℕ
-numbersOf js = map (λ (j : Job). j .number) js
+-- the waiting jobs: each by itself, their numbers, and in order of start each behind the free times and those before it
+unfoldable pub waitingPass : Figures → Busy → List Job → Bool
+waitingPass g b js = jobsPass g js && allDiffer (numbersOf js) && fitAll b (spansOfAll (g .costs) (byStart js))
 
--- figures with which no sum wraps
-pub record Usable (g : Figures) : Type 0 where
-  pub nodes : g .nodes ≤ 64
-  pub costs : CostsWithin (g .costs)
+-- ---- What the paper asks
 
--- a job whose sends and finishes do not wrap, and whose nodes have free times
-pub record NoOverflow (c : Costs) (j : Job) : Type 0 where
-  pub costs : CostsWithin c
+-- a waiting job's figures are within their limits
+pub record JobWithin (g : Figures) (j : Job) : Type 0 where
+  pub number : Between 1 (j .number) (g .used)
+  pub show : Between 1 (j .show) (g .shows)
+  pub size : Between 1 (j .size) 1_000_000
+  pub deadline : j .deadline ≤ greatest
   pub start : j .booking .start ≤ greatest
-  pub count : j .booking .count ≤ 64
-  pub nodes : (i : ℕ) → i < j .booking .count → getD (j .booking .nodes) i 0 ≤ 64
+  pub count : Between 1 (j .booking .count) 64
+  pub nodes : All (λ (k : ℕ). Between 1 k (g .nodes)) (chosen (j .booking))
 
--- what a survey of the first n jobs comes to
-pub record Surveys (g : Figures) (js : List Job) (n : ℕ) (r : Survey) : Type 0 where
-  pub tells : r .passes ≡ allPass g js
-  pub numbers : r .passes ≡ true → take n (r .numbers) ≡ numbersOf js
-  pub keys : r .passes ≡ true → take n (r .keys) ≡ keysBy startOf 0 js
-  pub many : length (r .numbers) ≡ 128
+-- a waiting booking is sound: no start before the clock or the link's free time, no node taken before its free time, shares of at least 1
+-- that add up to the size, every finish by its deadline. Sends and finishes are as the costs make them by construction: a booking stores its
+-- start, nodes and shares, and the rest is worked out (`linesOf`).
+pub record JobSound (g : Figures) (b : Busy) (j : Job) : Type 0 where
+  pub clock : g .clock ≤ j .booking .start
+  pub link : b .link ≤ j .booking .start
+  pub free : All (λ (k : ℕ). freeAt (b .free) k ≤ j .booking .start) (chosen (j .booking))
+  pub each : Positive (units (j .booking))
+  pub all : sum (units (j .booking)) ≡ j .size
+  pub ends : finish (g .costs) (j .booking .start) (units (j .booking)) ≤ j .deadline
 
-abbrev pub Inside : ℕ → Key → Type 0
-Inside n k = k .place < n
-
--- r says of a job's chunks behind b whether they fit, and what they leave to all that follow
-pub record FitResult (c : Costs) (b : Busy) (j : Job) (r : Fit) : Type 0 where
-  pub rest : (xs : List Span) → fitAll b (spansOf c j ++ xs) ≡ r .fits && fitAll (r .busy) xs
+pub record Sound (g : Figures) (b : Busy) (js : List Job) : Type 0 where
+  pub jobs : All (JobSound g b) js
+  -- sends and node spans apart, pairwise
+  pub apart : Pairs Apart (spansOfAll (g .costs) js)
+  -- job numbers all different (that they are among those used is in JobWithin)
+  pub differ : Differ (numbersOf js)

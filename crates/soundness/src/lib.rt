@@ -2,23 +2,26 @@
 // It knows no farm. Nothing is taken for granted of a job: what could make a sum wrap is tested before the sum is made.
 // What each function means is in specs/Model.antt.
 ghost use mathlib.Core.Path.{_≡_};
-ghost use Prim.Native.Nat.{_+_, _*_, _-_, _≤_, _<_};
+ghost use Prim.Native.Nat.{_≤_};
 ghost use lib.ListN.{take};
 ghost use Rattle.lists.specs.Laws.{All};
-ghost use Rattle.shares.specs.Model.{sendEnd};
-ghost use Rattle.limits.specs.Model.{CostsWithin};
 ghost use Rattle.booking.specs.Best.{units};
 ghost use Rattle.walk.specs.Model.{keysBy, startOf, byStart, spansOfAll, inOrder, fitAll};
-ghost use Rattle.soundness.specs.Model.{noneOf, allDiffer, nodesKnown, sharesKept, headWithin, jobPasses, allPass, Usable, NoOverflow, Inside, Surveys, FitResult};
+ghost use Rattle.soundness.specs.Model.{noneOf, allDiffer, nodesKnown, sharesKept, jobWithin, jobPasses, waitingPass};
+ghost use Rattle.soundness.specs.Sound.{Usable};
+ghost use Rattle.soundness.specs.Steps.{NoOverflow, Bounded, Inside, Surveys, FitResult};
 use keys::Key;
 use limits::and;
 use limits::at_most;
 use limits::between;
 use numbers::least;
 use numbers::wide;
+use numbers::wide8;
+use numbers::wide32;
 use shares::Costs;
 use walk::Busy;
 use walk::Job;
+use walk::chunk_at;
 
 // What each waiting job is held against.
 pub struct Figures {
@@ -30,30 +33,16 @@ pub struct Figures {
 }
 
 // Whether each job passes by itself and, if so, the jobs' numbers and their keys by start.
-pub struct Survey {
+struct Survey {
     pub passes: bool,
     pub numbers: [u64; 128],
     pub keys: [Key; 128],
 }
 
 // Whether a job's chunks fit behind what came before them, and the free times after them.
-pub struct Fit {
+struct Fit {
     pub fits: bool,
     pub busy: Busy,
-}
-
-// ---- Widths
-
-fn wide32(x: u32) -> u64
-    ensures { λ r. ⌜ (r ≡ x) × (r < 4294967296) ⌝ }
-{
-    x as u64
-}
-
-fn wide8(x: u8) -> usize
-    ensures { λ r. ⌜ r ≡ x ⌝ }
-{
-    x as usize
 }
 
 // ---- A job by itself
@@ -62,6 +51,7 @@ fn wide8(x: u8) -> usize
 fn nodes_known(nodes: [u8; 64], count: usize, limit: usize) -> bool
     ensures { λ r. ⌜ r ≡ nodesKnown limit (take count nodes) ⌝ }
 {
+    let most = wide(limit);
     let n = least(count, 64);
     let mut i = 0;
     while i < n {
@@ -69,7 +59,7 @@ fn nodes_known(nodes: [u8; 64], count: usize, limit: usize) -> bool
         if node < 1 {
             return false;
         }
-        if limit < node {
+        if most < node {
             return false;
         }
         i += 1;
@@ -78,7 +68,7 @@ fn nodes_known(nodes: [u8; 64], count: usize, limit: usize) -> bool
 }
 
 fn job_within(figures: Figures, job: Job) -> bool
-    ensures { λ r. ⌜ r ≡ headWithin figures job ⌝ }
+    ensures { λ r. ⌜ r ≡ jobWithin figures job ⌝ }
 {
     let b = job.booking;
     let nodes = b.nodes;
@@ -97,34 +87,10 @@ fn job_within(figures: Figures, job: Job) -> bool
     )
 }
 
-// What `units` units cost at `each` ticks a unit, with the setup. The one product: that it cannot wrap is shown here.
-fn cost(setup: u64, units: u64, each: u64) -> u64
-    requires { ⌜ (setup ≤ 1000000) × (units < 4294967296) × (each ≤ 1000000) ⌝ }
-    ensures { λ r. ⌜ (r ≡ setup + units * each) × (r ≤ 4294968000000000) ⌝ }
-{
-    setup + units * each
-}
-
-// When the send that begins at `from` has ended.
-fn send_end(costs: Costs, from: u64, units: u64) -> u64
-    requires { ⌜ CostsWithin costs × (from ≤ 300000000000000000) × (units < 4294967296) ⌝ }
-    ensures { λ r. ⌜ (r ≡ sendEnd costs from units) × (r ≤ from + 4294968000000000) ⌝ }
-{
-    from + cost(costs.linksetup, units, costs.send)
-}
-
-// When the chunk whose send has ended at `sent` has finished.
-fn chunk_end(costs: Costs, sent: u64, units: u64) -> u64
-    requires { ⌜ CostsWithin costs × (sent ≤ 400000000000000000) × (units < 4294967296) ⌝ }
-    ensures { λ r. ⌜ r ≡ sent + (costs .nodesetup + units * costs .compute) ⌝ }
-{
-    sent + cost(costs.nodesetup, units, costs.compute)
-}
-
 // Whether the shares are at least 1 each and add up to the size, and each chunk finishes by the deadline.
 fn shares_kept(costs: Costs, job: Job) -> bool
     requires { ⌜ NoOverflow costs job ⌝ }
-    ensures { λ r. ⌜ r ≡ sharesKept costs (job .size) (job .deadline) 0 (job .booking .start) (units (job .booking)) ⌝ }
+    ensures { λ r. ⌜ r ≡ sharesKept costs (job .size) (job .deadline) (job .booking .start) (units (job .booking)) ⌝ }
 {
     let b = job.booking;
     let mut total: u64 = 0;
@@ -132,15 +98,15 @@ fn shares_kept(costs: Costs, job: Job) -> bool
     let mut i = 0;
     while i < b.count {
         let units = wide32(b.shares[i]);
-        let sent = send_end(costs, from, units);
         if units < 1 {
             return false;
         }
-        if job.deadline < chunk_end(costs, sent, units) {
+        let chunk = chunk_at(costs, job, i, from);
+        if job.deadline < chunk.finish {
             return false;
         }
         total += units;
-        from = sent;
+        from = chunk.sent;
         i += 1;
     }
     and(total == wide32(job.size), from <= job.deadline)
@@ -161,7 +127,7 @@ fn job_passes(figures: Figures, job: Job) -> bool
 }
 
 // Each of the first `count` jobs by itself, and on the way their numbers and their keys by start: the jobs are gone through once.
-pub fn surveyed(figures: Figures, jobs: [Job; 128], count: usize) -> Survey
+fn surveyed(figures: Figures, jobs: [Job; 128], count: usize) -> Survey
     requires { ⌜ Usable figures × (count ≤ 128) ⌝ }
     ensures { λ r. ⌜ Surveys figures (take count jobs) count r ⌝ }
 {
@@ -213,7 +179,7 @@ fn none_of(x: u64, xs: &[u64]) -> bool
     true
 }
 
-pub fn all_differ(xs: &[u64]) -> bool
+fn all_differ(xs: &[u64]) -> bool
     ensures { λ r. ⌜ r ≡ allDiffer (now (xs .entry)) ⌝ }
 {
     let n = xs.len();
@@ -230,19 +196,9 @@ pub fn all_differ(xs: &[u64]) -> bool
 
 // ---- The jobs behind one another
 
-// Where the free time of a node stands.
-fn place_of(node: u8) -> usize
-    ensures { λ r. ⌜ r ≡ node - 1 ⌝ }
-{
-    if node < 1 {
-        return 0;
-    }
-    (node - 1) as usize
-}
-
 // The chunks of a job, each behind what those before it have left.
 fn job_fits(costs: Costs, busy: Busy, job: Job) -> Fit
-    requires { ⌜ NoOverflow costs job ⌝ }
+    requires { ⌜ Bounded costs job ⌝ }
     ensures { λ r. ⌜ FitResult costs busy job r ⌝ }
 {
     let b = job.booking;
@@ -251,19 +207,17 @@ fn job_fits(costs: Costs, busy: Busy, job: Job) -> Fit
     let mut from = b.start;
     let mut i = 0;
     while i < b.count {
-        let place = place_of(b.nodes[i]);
+        let chunk = chunk_at(costs, job, i, from);
+        let place = chunk.node as usize - 1;
         if from < link {
             return Fit { fits: false, busy };
         }
         if b.start < free[place] {
             return Fit { fits: false, busy };
         }
-        let units = wide32(b.shares[i]);
-        let sent = send_end(costs, from, units);
-        let finish = chunk_end(costs, sent, units);
-        free[place] = finish;
-        link = sent;
-        from = sent;
+        free[place] = chunk.finish;
+        link = chunk.sent;
+        from = chunk.sent;
         i += 1;
     }
     Fit {
@@ -274,7 +228,7 @@ fn job_fits(costs: Costs, busy: Busy, job: Job) -> Fit
 
 // The jobs in the order of the keys, each behind those before it.
 fn jobs_fit(costs: Costs, busy: Busy, jobs: [Job; 128], keys: [Key; 128], count: usize) -> bool
-    requires { ⌜ (count ≤ 128) × All (NoOverflow costs) (take count jobs) × All (Inside count) (take count keys) ⌝ }
+    requires { ⌜ (count ≤ 128) × All (Bounded costs) (take count jobs) × All (Inside count) (take count keys) ⌝ }
     ensures { λ r. ⌜ r ≡ fitAll busy (spansOfAll costs (inOrder (take count jobs) (take count keys))) ⌝ }
 {
     let mut now_busy = busy;
@@ -293,10 +247,29 @@ fn jobs_fit(costs: Costs, busy: Busy, jobs: [Job; 128], keys: [Key; 128], count:
 }
 
 // The jobs by their starts, one after the other. They mostly stand in that order already.
-pub fn in_turn(costs: Costs, busy: Busy, jobs: [Job; 128], keys: [Key; 128], count: usize) -> bool
-    requires { ⌜ (count ≤ 128) × All (NoOverflow costs) (take count jobs) × (take count keys ≡ keysBy startOf 0 (take count jobs)) ⌝ }
+fn in_turn(costs: Costs, busy: Busy, jobs: [Job; 128], keys: [Key; 128], count: usize) -> bool
+    requires { ⌜ (count ≤ 128) × All (Bounded costs) (take count jobs) × (take count keys ≡ keysBy startOf 0 (take count jobs)) ⌝ }
     ensures { λ r. ⌜ r ≡ fitAll busy (spansOfAll costs (byStart (take count jobs))) ⌝ }
 {
     let order = keys::sorted(keys, count);
     jobs_fit(costs, busy, jobs, order, count)
+}
+
+// ---- The answer
+
+// Question 11 asked of the first `count` jobs: each by itself, their numbers, and all of them in order of start.
+pub fn waiting_pass(figures: Figures, busy: Busy, jobs: [Job; 128], count: usize) -> bool
+    requires { ⌜ Usable figures × (count ≤ 128) ⌝ }
+    ensures { λ r. ⌜ r ≡ waitingPass figures busy (take count jobs) ⌝ }
+{
+    let survey = surveyed(figures, jobs, count);
+    if !survey.passes {
+        return false;
+    }
+    let numbers = survey.numbers;
+    if !all_differ(&numbers[0..count]) {
+        return false;
+    }
+    let keys = survey.keys;
+    in_turn(figures.costs, busy, jobs, keys, count)
 }

@@ -3,3 +3,4 @@ pub mod Model
 pub mod Begin
 pub mod Raise
 pub mod Lines
+pub mod Keep

@@ -5,7 +5,7 @@ use Rattle.soundness.specs.Model.{noneOf, allDiffer}
 use mathlib.Core.Path.{_≡_, sym, ap, _∙_}
 use native.Mathlib.Omega.{arith}
 use borrow.Author.Tests.{not-true, not-false}
-use Rattle.soundness.specs.Tests.{differ-more, differ-stop, differ-none, part-rest}
+use Rattle.soundness.specs.Steps.{differ-more, differ-stop, differ-none, part-rest}
 use borrow.Author.Needs.{needs}
 use Rattle.soundness.proofs.all_differ.Statement.{statement}
 use Rattle.soundness.proofs.all_differ.Tie as tie

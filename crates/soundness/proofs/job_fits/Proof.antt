@@ -1,98 +1,101 @@
--- `soundness::job_fits` meets its contract. The loop's invariant: the chunks that are left, behind the free times so far, decide; the sends so far are
--- bounded so that no sum wraps. The measure is the chunks that are left.
-use Rattle.soundness.specs.Tests.{Fitting, fitting-start, fitting-step, fitting-link, fitting-node, fitting-none}
-use mathlib.Core.Bool.{false}
-use Rattle.walk.specs.declared.Busy.{Busy}
-use Rattle.walk.proofs.Sizes.{nodes-length, shares-length, free-length}
-use mathlib.Core.Path.{_≡_, refl, subst}
-use Prim.Native.Nat.{ℕ, _+_, _*_, _-_, _≤_, _<_}
+-- `soundness::job_fits` meets its contract. The loop's invariant: the chunks that are left, behind the free times so far, decide. The measure is the
+-- chunks that are left.
+use mathlib.Core.Path.{_≡_}
+use Prim.Native.Nat.{_-_, _≤_}
 use native.Mathlib.Omega.{arith}
-use lib.ListN.{length, getD, length-set}
+use lib.ListN.{length, length-set}
+use Rattle.walk.specs.declared.Busy.{Busy}
+use Rattle.walk.specs.Model.{greatest}
+use Rattle.walk.specs.Chunks.{latestFrom, node-known, ends-next, chunk-fits}
+use Rattle.walk.proofs.Sizes.{nodes-length, shares-length, free-length}
+use Rattle.soundness.specs.Steps.{bounded-sends, Fitting, fitting-start, fitting-more, fitting-link, fitting-node, fitting-all}
 use borrow.Author.Needs.{needs}
 use Rattle.soundness.proofs.job_fits.Statement.{statement}
 use Rattle.soundness.proofs.job_fits.Tie as tie
 
 abbrev Inv-loop : tie.InvT-loop
-Inv-loop costs busy b link₀ free₀ from₀ i₀ link free from i = (i ≤ b .count) × (length free ≡ 64) × (from ≤ 1000000000000 + i * 4294968000000000) × Fitting costs busy b (record { link = link; free = free }) from i
+Inv-loop costs busy job b link₀ free₀ from₀ i₀ link free from i =
+    (i ≤ b .count) × (length free ≡ 64) × (latestFrom costs job i from ≤ greatest) × Fitting costs busy job (record { link = link; free = free }) from i
 
 abbrev μ-loop : tie.MeasureT-loop
-μ-loop costs busy b link₀ free₀ from₀ i₀ link free from i = b .count - i
+μ-loop costs busy job b link₀ free₀ from₀ i₀ link free from i = b .count - i
 
 loop-holds : tie.Need-loop-holds Inv-loop μ-loop
 loop-holds c =
     let z = c .before .before in
     let a = z .args in
-    (omega arith, free-length (a .busy) (z .good .1 .0), z .pre .start, fitting-start (a .costs) (a .busy) (a .job .booking))
+    (omega arith, free-length (a .busy) (z .good .1 .0), z .pre .ends, fitting-start (a .costs) (a .busy) (a .job))
 
-element-copy-out-place-of : tie.Need-element-copy-out-place-of Inv-loop μ-loop
-element-copy-out-place-of c = search needs
+chunk-at-requires : tie.Need-chunk-at-requires Inv-loop μ-loop
+chunk-at-requires c κs =
+    let z = c .before .before .before .before .before in
+    let a = z .args in
+    let s = bounded-sends (a .costs) (a .job) (z .pre) (nodes-length (a .job) (z .good .1 .1 .0)) (shares-length (a .job) (z .good .1 .1 .0)) in
+    let l = c .before .before .loop in
+    chunk-fits (a .costs) (a .job) s (l .i) (l .from) (c .if1 .taken) (l .inv .2)
 
-place-of-requires : tie.Need-place-of-requires Inv-loop μ-loop
-place-of-requires c κs = search needs
+sub-place : tie.Need-sub-place Inv-loop μ-loop
+sub-place c =
+    let z = c .before .before .before .before .before .before in
+    let a = z .args in
+    let s = bounded-sends (a .costs) (a .job) (z .pre) (nodes-length (a .job) (z .good .1 .1 .0)) (shares-length (a .job) (z .good .1 .1 .0)) in
+    let l = c .before .before .before .loop in
+    let k = node-known (a .costs) (a .job) s (l .i) (l .from) (c .before .if1 .taken) in
+    rw (c .chunk-at .ensures) (omega (arith, k))
 
 returns : tie.Need-returns Inv-loop μ-loop
 returns c =
     let z = c .before .before .before .before .before .before .before in
     let a = z .args in
+    let s = bounded-sends (a .costs) (a .job) (z .pre) (nodes-length (a .job) (z .good .1 .1 .0)) (shares-length (a .job) (z .good .1 .1 .0)) in
     let l = c .before .before .before .before .loop in
-    let h = c .before .before .before .loop-test .taken in
-    let calm = z .pre in
-    let ks : a .job .booking .count ≤ length (a .job .booking .nodes) = omega (arith, calm .count, nodes-length (a .job) (z .good .1 .1 .0)) in
-    let us : a .job .booking .count ≤ length (a .job .booking .shares) = omega (arith, calm .count, shares-length (a .job) (z .good .1 .1 .0)) in
     let now : Busy = record { link = l .link; free = l .free } in
-    fitting-link (a .costs) (a .busy) (a .job .booking) now (l .from) (l .i) (l .inv .3) h ks us (record { fits = false; busy = a .busy }) (a .job) refl refl (c .if1 .taken)
+    fitting-link (a .costs) (a .busy) (a .job) now (l .from) (l .i) (l .inv .3) s (c .before .before .if1 .taken) (c .before .chunk-at .result) (c .before .chunk-at .ensures) (c .if2 .taken)
 
-mul-if2 : tie.Need-mul-if2 Inv-loop μ-loop
-mul-if2 c =
+mul-if3 : tie.Need-mul-if3 Inv-loop μ-loop
+mul-if3 c =
     let z = c .before .before .before .before .before .before .before in
+    let a = z .args in
+    let s = bounded-sends (a .costs) (a .job) (z .pre) (nodes-length (a .job) (z .good .1 .1 .0)) (shares-length (a .job) (z .good .1 .1 .0)) in
     let l = c .before .before .before .before .loop in
-    omega (arith, z .pre .nodes (l .i) (c .before .before .before .loop-test .taken))
+    let k = node-known (a .costs) (a .job) s (l .i) (l .from) (c .before .before .if1 .taken) in
+    rw (c .before .chunk-at .ensures) (omega (arith, k))
 
-array-read-if2 : tie.Need-array-read-if2 Inv-loop μ-loop
-array-read-if2 c =
+array-read-if3 : tie.Need-array-read-if3 Inv-loop μ-loop
+array-read-if3 c =
     let z = c .before .before .before .before .before .before .before in
+    let a = z .args in
+    let s = bounded-sends (a .costs) (a .job) (z .pre) (nodes-length (a .job) (z .good .1 .1 .0)) (shares-length (a .job) (z .good .1 .1 .0)) in
     let l = c .before .before .before .before .loop in
-    omega (arith, z .pre .nodes (l .i) (c .before .before .before .loop-test .taken))
+    let k = node-known (a .costs) (a .job) s (l .i) (l .from) (c .before .before .if1 .taken) in
+    rw (c .before .chunk-at .ensures) (omega (arith, k, l .inv .1))
 
 returns-2 : tie.Need-returns-2 Inv-loop μ-loop
 returns-2 c =
-    let z = c .before .before .before .before .before .before .before .before in
+    let z = c .before .before .before .before .before .before .before .before .before in
     let a = z .args in
-    let l = c .before .before .before .before .before .loop in
-    let h = c .before .before .before .before .loop-test .taken in
-    let calm = z .pre in
-    let ks : a .job .booking .count ≤ length (a .job .booking .nodes) = omega (arith, calm .count, nodes-length (a .job) (z .good .1 .1 .0)) in
-    let us : a .job .booking .count ≤ length (a .job .booking .shares) = omega (arith, calm .count, shares-length (a .job) (z .good .1 .1 .0)) in
+    let s = bounded-sends (a .costs) (a .job) (z .pre) (nodes-length (a .job) (z .good .1 .1 .0)) (shares-length (a .job) (z .good .1 .1 .0)) in
+    let l = c .before .before .before .before .before .before .loop in
     let now : Busy = record { link = l .link; free = l .free } in
-    fitting-node (a .costs) (a .busy) (a .job .booking) now (l .from) (l .i) (l .inv .3) h ks us (record { fits = false; busy = a .busy }) (a .job) refl refl
-    (subst (λ (k : ℕ). a .job .booking .start < getD (l .free) k 0) (c .before .before .place-of .ensures) (c .if2 .taken))
-
-mul-wide32 : tie.Need-mul-wide32 Inv-loop μ-loop
-mul-wide32 c = search needs
-
-element-copy-out-wide32 : tie.Need-element-copy-out-wide32 Inv-loop μ-loop
-element-copy-out-wide32 c = search needs
-
-wide32-requires : tie.Need-wide32-requires Inv-loop μ-loop
-wide32-requires c κs = search needs
-
-send-end-requires : tie.Need-send-end-requires Inv-loop μ-loop
-send-end-requires c κs = search needs
-
-chunk-end-requires : tie.Need-chunk-end-requires Inv-loop μ-loop
-chunk-end-requires c κs = search needs
+    fitting-node (a .costs) (a .busy) (a .job) now (l .from) (l .i) (l .inv .3) s (c .before .before .before .before .if1 .taken) (c .before .before .before .chunk-at .result) (c .before .before .before .chunk-at .ensures) (c .if3 .taken)
 
 mul-free : tie.Need-mul-free Inv-loop μ-loop
 mul-free c =
-    let z = c .before .before .before .before .before .before .before .before .before .before .before .before in
-    let l = c .before .before .before .before .before .before .before .before .before .loop in
-    omega (arith, z .pre .nodes (l .i) (c .before .before .before .before .before .before .before .before .loop-test .taken))
+    let z = c .before .before .before .before .before .before .before .before .before in
+    let a = z .args in
+    let s = bounded-sends (a .costs) (a .job) (z .pre) (nodes-length (a .job) (z .good .1 .1 .0)) (shares-length (a .job) (z .good .1 .1 .0)) in
+    let l = c .before .before .before .before .before .before .loop in
+    let k = node-known (a .costs) (a .job) s (l .i) (l .from) (c .before .before .before .before .if1 .taken) in
+    rw (c .before .before .before .chunk-at .ensures) (omega (arith, k))
 
 array-write-free : tie.Need-array-write-free Inv-loop μ-loop
 array-write-free c =
-    let z = c .before .before .before .before .before .before .before .before .before .before .before .before in
-    let l = c .before .before .before .before .before .before .before .before .before .loop in
-    omega (arith, z .pre .nodes (l .i) (c .before .before .before .before .before .before .before .before .loop-test .taken))
+    let z = c .before .before .before .before .before .before .before .before .before in
+    let a = z .args in
+    let s = bounded-sends (a .costs) (a .job) (z .pre) (nodes-length (a .job) (z .good .1 .1 .0)) (shares-length (a .job) (z .good .1 .1 .0)) in
+    let l = c .before .before .before .before .before .before .loop in
+    let k = node-known (a .costs) (a .job) s (l .i) (l .from) (c .before .before .before .before .if1 .taken) in
+    rw (c .before .before .before .chunk-at .ensures) (omega (arith, k, l .inv .1))
 
 add-i : tie.Need-add-i Inv-loop μ-loop
 add-i c = search needs
@@ -102,26 +105,26 @@ loop-less c = search needs
 
 loop-again : tie.Need-loop-again Inv-loop μ-loop
 loop-again c =
-    let z = c .before .before .before .before .before .before .before .before .before .before .before .before in
+    let z = c .before .before .before .before .before .before .before .before .before in
     let a = z .args in
-    let l = c .before .before .before .before .before .before .before .before .before .loop in
-    let h = c .before .before .before .before .before .before .before .before .loop-test .taken in
-    let calm = z .pre in
-    let ks : a .job .booking .count ≤ length (a .job .booking .nodes) = omega (arith, calm .count, nodes-length (a .job) (z .good .1 .1 .0)) in
-    let us : a .job .booking .count ≤ length (a .job .booking .shares) = omega (arith, calm .count, shares-length (a .job) (z .good .1 .1 .0)) in
-    let now : Busy = record { link = l .link; free = l .free } in
-    let step = fitting-step (a .costs) (a .busy) (a .job .booking) now (l .from) (l .i) (l .inv .3) h ks us
-    (c .before .before .before .before .before .before .place-of .result) (c .before .before .wide32 .result) (c .before .send-end .result) (c .chunk-end .result)
-    (c .before .before .before .before .before .before .place-of .ensures) (c .before .before .wide32 .ensures .0) (c .before .send-end .ensures .0) (c .chunk-end .ensures)
-    (c .before .before .before .before .before .if1 .left) (c .before .before .before .before .if2 .left) in
-    (omega arith, simp length-set (l .inv .1), omega (arith, c .before .send-end .ensures .1, l .inv .2), step)
+    let s = bounded-sends (a .costs) (a .job) (z .pre) (nodes-length (a .job) (z .good .1 .1 .0)) (shares-length (a .job) (z .good .1 .1 .0)) in
+    let l = c .before .before .before .before .before .before .loop in
+    let x = c .before .before .before .chunk-at in
+    let more = c .before .before .before .before .if1 .taken in
+    let now : Busy = record { link = l .link; free = l .free } in (
+      omega arith,
+      simp length-set (l .inv .1),
+      rw (x .ensures) (ends-next (a .costs) (a .job) s (l .i) (l .from) more (l .inv .2) .1),
+      fitting-more (a .costs) (a .busy) (a .job) now (l .from) (l .i) (l .inv .3) s more (x .result) (x .ensures) (c .before .before .if2 .left) (c .if3 .left),
+    )
 
 returns-3 : tie.Need-returns-3 Inv-loop μ-loop
 returns-3 c =
-    let z = c .before .before .before .before in
+    let z = c .before .before .before .before .before in
     let a = z .args in
-    let l = c .before .loop in
-    fitting-none (a .costs) (a .busy) (a .job) (record { link = l .link; free = l .free }) (l .from) (l .i) (l .inv .3) (omega arith)
+    let s = bounded-sends (a .costs) (a .job) (z .pre) (nodes-length (a .job) (z .good .1 .1 .0)) (shares-length (a .job) (z .good .1 .1 .0)) in
+    let l = c .before .before .loop in
+    fitting-all (a .costs) (a .busy) (a .job) (record { link = l .link; free = l .free }) (l .from) (l .i) (l .inv .3) s (c .if1 .left)
 
 pub job-fits-spec : {M : Type 1} → statement M
 job-fits-spec =
@@ -130,17 +133,12 @@ job-fits-spec =
     Inv-loop
     μ-loop
     loop-holds
-    element-copy-out-place-of
-    place-of-requires
+    chunk-at-requires
+    sub-place
     returns
-    mul-if2
-    array-read-if2
+    mul-if3
+    array-read-if3
     returns-2
-    mul-wide32
-    element-copy-out-wide32
-    wide32-requires
-    send-end-requires
-    chunk-end-requires
     mul-free
     array-write-free
     add-i

@@ -1,7 +1,7 @@
 -- `soundness::job_passes` meets its contract: a job within its limits has sums that do not wrap.
 use mathlib.Core.Path.{sym, _∙_}
 use borrow.Author.Tests.{not-true, not-false}
-use Rattle.soundness.specs.Tests.{no-overflow-of, job-out, job-early, job-whole}
+use Rattle.soundness.specs.Steps.{no-overflow-of, job-out, job-early, job-whole}
 use borrow.Author.Needs.{needs}
 use Rattle.soundness.proofs.job_passes.Statement.{statement}
 use Rattle.soundness.proofs.job_passes.Tie as tie

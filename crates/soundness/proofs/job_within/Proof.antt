@@ -3,7 +3,7 @@ use mathlib.Core.Path.{ap, _∙_}
 use Prim.Native.Nat.{ℕ}
 use Rattle.limits.specs.Model.{between}
 use Rattle.limits.specs.Tests.{both}
-use Rattle.soundness.specs.Model.{headWithin}
+use Rattle.soundness.specs.Model.{jobWithin}
 use borrow.Author.Needs.{needs}
 use Rattle.soundness.proofs.job_within.Statement.{statement}
 use Rattle.soundness.proofs.job_within.Tie as tie
@@ -57,7 +57,7 @@ and-requires-6 : tie.Need-and-requires-6
 and-requires-6 c κs = search needs
 
 returns : tie.Need-returns
-unfolding headWithin
+unfolding jobWithin
 returns c =
     let a = c .before .before .before .before .before .before .before .before .before .before .before .before .before .before .before .before .before .before .args in
     let show = c .before .before .before .before .before .before .before .before .before .before .before .before .before .between2 .ensures ∙ ap (λ (k : ℕ). between 1 (a .job .show) k) (c .before .before .before .before .before .before .before .before .before .before .before .before .before .before .wide .ensures) in

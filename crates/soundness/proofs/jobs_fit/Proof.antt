@@ -7,7 +7,7 @@ use lib.ListN.{length, take}
 use lib.Seq.{slice}
 use borrow.Author.Tests.{not-true, not-false}
 use Rattle.walk.specs.Model.{spansOfAll, inOrder, fitAll}
-use Rattle.soundness.specs.Tests.{key-inside, key-no-overflow, turn-more, turn-stop, turn-none}
+use Rattle.soundness.specs.Steps.{key-inside, key-bounded, turn-more, turn-stop, turn-none}
 use borrow.Author.Needs.{needs}
 use Rattle.soundness.proofs.jobs_fit.Statement.{statement}
 use Rattle.soundness.proofs.jobs_fit.Tie as tie
@@ -57,7 +57,7 @@ job-fits-requires c κs =
     let h = c .before .before .loop-test .taken in
     let js : a .count ≤ length (a .t3) = omega (arith, z .pre .0) in
     let ks : a .count ≤ length (a .t4) = omega (arith, z .pre .0) in
-    key-no-overflow (a .costs) (l .now-busy) (a .t3) (a .t4) (l .i) (a .count) h js ks (z .pre .2) (z .pre .1)
+    key-bounded (a .costs) (l .now-busy) (a .t3) (a .t4) (l .i) (a .count) h js ks (z .pre .2) (z .pre .1)
 
 returns : tie.Need-returns Inv-loop μ-loop
 returns c =

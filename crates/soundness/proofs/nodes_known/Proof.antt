@@ -6,23 +6,26 @@ use lib.ListN.{length, getD, take}
 use lib.Seq.{slice}
 use Rattle.limits.specs.Tests.{take-least}
 use Rattle.soundness.specs.Model.{nodesKnown}
-use Rattle.soundness.specs.Tests.{known-more, known-low, known-high, known-none}
+use Rattle.soundness.specs.Steps.{known-more, known-low, known-high, known-none}
 use borrow.Author.Needs.{needs}
 use Rattle.soundness.proofs.nodes_known.Statement.{statement}
 use Rattle.soundness.proofs.nodes_known.Tie as tie
 
 abbrev Inv-loop : tie.InvT-loop
-Inv-loop count limit nodes n i₀ i = (i ≤ n) × (n ≤ 64) × (nodesKnown limit (slice i n nodes) ≡ nodesKnown limit (take count nodes))
+Inv-loop count limit nodes most n i₀ i = (i ≤ n) × (n ≤ 64) × (nodesKnown limit (slice i n nodes) ≡ nodesKnown limit (take count nodes))
 
 abbrev μ-loop : tie.MeasureT-loop
-μ-loop count limit nodes n i₀ i = n - i
+μ-loop count limit nodes most n i₀ i = n - i
+
+wide-requires : tie.Need-wide-requires Inv-loop μ-loop
+wide-requires c κs = search needs
 
 least-requires : tie.Need-least-requires Inv-loop μ-loop
 least-requires c κs = search needs
 
 loop-holds : tie.Need-loop-holds Inv-loop μ-loop
 loop-holds c =
-    let a = c .before .args in
+    let a = c .before .before .args in
     let fits : length (a .t1) ≡ 64 = omega arith in
     let n : c .least .result ≡ min (a .count) (length (a .t1)) = omega arith in
     (omega arith, omega arith, ap (λ (k : ℕ). nodesKnown (a .limit) (take k (a .t1))) n ∙ ap (nodesKnown (a .limit)) (take-least (a .count) (a .t1)))
@@ -35,19 +38,19 @@ wide8-requires c κs = search needs
 
 returns : tie.Need-returns Inv-loop μ-loop
 returns c =
-    let a = c .before .before .before .before .before .args in
+    let a = c .before .before .before .before .before .before .args in
     let l = c .before .before .before .loop in
     let n = c .before .before .before .before .least .result in
     let fits : n ≤ length (a .t1) = omega arith in
-    sym (sym (l .inv .2) ∙ known-low (a .limit) (a .t1) (l .i) n (c .before .before .loop-test .taken) fits (subst (λ (k : ℕ). k < 1) (c .before .wide8 .ensures) (c .if1 .taken)))
+    sym (sym (l .inv .2) ∙ known-low (a .limit) (a .t1) (l .i) n (c .before .before .loop-test .taken) fits (subst (λ (k : ℕ). k < 1) (c .before .wide8 .ensures .0) (c .if1 .taken)))
 
 returns-2 : tie.Need-returns-2 Inv-loop μ-loop
 returns-2 c =
-    let a = c .before .before .before .before .before .before .args in
+    let a = c .before .before .before .before .before .before .before .args in
     let l = c .before .before .before .before .loop in
     let n = c .before .before .before .before .before .least .result in
     let fits : n ≤ length (a .t1) = omega arith in
-    sym (sym (l .inv .2) ∙ known-high (a .limit) (a .t1) (l .i) n (c .before .before .before .loop-test .taken) fits (subst (λ (k : ℕ). a .limit < k) (c .before .before .wide8 .ensures) (c .if2 .taken)))
+    sym (sym (l .inv .2) ∙ known-high (a .limit) (a .t1) (l .i) n (c .before .before .before .loop-test .taken) fits (omega (arith, c .before .before .wide8 .ensures .0, c .before .before .before .before .before .before .wide .ensures, c .if2 .taken)))
 
 add-i : tie.Need-add-i Inv-loop μ-loop
 add-i c = search needs
@@ -57,17 +60,17 @@ loop-less c = search needs
 
 loop-again : tie.Need-loop-again Inv-loop μ-loop
 loop-again c =
-    let a = c .before .before .before .before .before .before .args in
+    let a = c .before .before .before .before .before .before .before .args in
     let l = c .before .before .before .before .loop in
     let n = c .before .before .before .before .before .least .result in
     let fits : n ≤ length (a .t1) = omega arith in
-    let low : 1 ≤ getD (a .t1) (l .i) 0 = subst (λ (k : ℕ). 1 ≤ k) (c .before .before .wide8 .ensures) (c .before .if1 .left) in
-    let high : getD (a .t1) (l .i) 0 ≤ a .limit = subst (λ (k : ℕ). k ≤ a .limit) (c .before .before .wide8 .ensures) (c .if2 .left) in
+    let low : 1 ≤ getD (a .t1) (l .i) 0 = subst (λ (k : ℕ). 1 ≤ k) (c .before .before .wide8 .ensures .0) (c .before .if1 .left) in
+    let high : getD (a .t1) (l .i) 0 ≤ a .limit = omega (arith, c .before .before .wide8 .ensures .0, c .before .before .before .before .before .before .wide .ensures, c .if2 .left) in
     (omega arith, l .inv .1, sym (known-more (a .limit) (a .t1) (l .i) n (c .before .before .before .loop-test .taken) fits low high) ∙ l .inv .2)
 
 returns-3 : tie.Need-returns-3 Inv-loop μ-loop
 returns-3 c =
-    let a = c .before .before .before .args in
+    let a = c .before .before .before .before .args in
     let l = c .before .loop in
     let n = c .before .before .least .result in
     let all : l .i ≡ n = omega arith in
@@ -79,6 +82,7 @@ nodes-known-spec =
     (tie.spec
     Inv-loop
     μ-loop
+    wide-requires
     least-requires
     loop-holds
     array-read-wide8

@@ -4,7 +4,7 @@ use Prim.Native.Nat.{ℕ, _-_, _≤_}
 use native.Mathlib.Omega.{arith}
 use lib.ListN.{length, drop}
 use Rattle.soundness.specs.Model.{noneOf}
-use Rattle.soundness.specs.Tests.{none-more, none-stop, none-none}
+use Rattle.soundness.specs.Steps.{none-more, none-stop, none-none}
 use borrow.Author.Needs.{needs}
 use Rattle.soundness.proofs.none_of.Statement.{statement}
 use Rattle.soundness.proofs.none_of.Tie as tie

@@ -1,30 +1,33 @@
 -- `soundness::shares_kept` meets its contract. The loop's invariant: what is left of the shares decides, behind the units and the sends so far, which
 -- are bounded so that no sum wraps. The measure is the chunks that are left.
 use mathlib.Core.Bool.{_&&_}
-use lib.Dec.{leb, eqb}
 use mathlib.Core.Path.{_≡_, sym, ap, subst, _∙_}
 use Prim.Native.Nat.{ℕ, _+_, _*_, _-_, _≤_, _<_}
 use native.Mathlib.Omega.{arith}
-use lib.ListN.{length}
+use lib.Dec.{leb, eqb}
+use lib.ListN.{length, getD}
 use lib.Seq.{slice}
 use Rattle.booking.specs.Best.{units}
-use Rattle.soundness.specs.Model.{sharesKept}
-use Rattle.soundness.specs.Tests.{shares-step, shares-small, shares-over, shares-none}
+use Rattle.walk.specs.Model.{greatest}
 use Rattle.walk.proofs.Sizes.{shares-length}
+use Rattle.soundness.specs.Model.{sharesKept}
+use Rattle.soundness.specs.Steps.{finish-small, keptBehind, kept-start, shares-step, shares-small, shares-over, sent-finish, shares-none}
 use borrow.Author.Needs.{needs}
 use Rattle.soundness.proofs.shares_kept.Statement.{statement}
 use Rattle.soundness.proofs.shares_kept.Tie as tie
 
 abbrev Inv-loop : tie.InvT-loop
 Inv-loop costs job b total₀ from₀ i₀ total from i =
-    (i ≤ b .count) × (total ≤ i * 4294967296) × (from ≤ 1000000000000 + i * 4294968000000000)
-    × (sharesKept costs (job .size) (job .deadline) 0 (b .start) (units b) ≡ sharesKept costs (job .size) (job .deadline) total from (slice i (b .count) (b .shares)))
+    (i ≤ b .count) × (total ≤ i * 4294967296) × (from ≤ greatest)
+    × (sharesKept costs (job .size) (job .deadline) (b .start) (units b) ≡ keptBehind costs (job .size) (job .deadline) total from (slice i (b .count) (b .shares)))
 
 abbrev μ-loop : tie.MeasureT-loop
 μ-loop costs job b total₀ from₀ i₀ total from i = b .count - i
 
 loop-holds : tie.Need-loop-holds Inv-loop μ-loop
-loop-holds c = search needs
+loop-holds c =
+    let a = c .before .args in
+    (omega arith, omega arith, c .before .pre .start, kept-start (a .costs) (a .job .size) (a .job .deadline) (a .job .booking .start) (units (a .job .booking)))
 
 mul-wide32 : tie.Need-mul-wide32 Inv-loop μ-loop
 mul-wide32 c = search needs
@@ -35,29 +38,29 @@ element-copy-out-wide32 c = search needs
 wide32-requires : tie.Need-wide32-requires Inv-loop μ-loop
 wide32-requires c κs = search needs
 
-send-end-requires : tie.Need-send-end-requires Inv-loop μ-loop
-send-end-requires c κs = search needs
-
 returns : tie.Need-returns Inv-loop μ-loop
 returns c =
-    let z = c .before .before .before .before .before .before .before in
+    let z = c .before .before .before .before .before .before in
     let a = z .args in
-    let l = c .before .before .before .before .before .loop in
-    let h = c .before .before .before .before .loop-test .taken in
+    let l = c .before .before .before .before .loop in
     let us : a .job .booking .count ≤ length (a .job .booking .shares) = omega (arith, z .pre .count, shares-length (a .job) (z .good .1 .0)) in
-    sym (l .inv .3 ∙ shares-small (a .costs) (a .job .size) (a .job .deadline) (l .total) (l .from) (a .job .booking .shares) (l .i) (a .job .booking .count) h us (subst (λ (k : ℕ). k < 1) (c .before .before .wide32 .ensures .0) (c .if1 .taken)))
+    sym (l .inv .3 ∙ shares-small (a .costs) (a .job .size) (a .job .deadline) (l .total) (l .from) (a .job .booking .shares) (l .i) (a .job .booking .count) (c .before .before .before .loop-test .taken) us (subst (λ (k : ℕ). k < 1) (c .before .wide32 .ensures .0) (c .if1 .taken)))
 
-chunk-end-requires : tie.Need-chunk-end-requires Inv-loop μ-loop
-chunk-end-requires c κs = search needs
+chunk-at-requires : tie.Need-chunk-at-requires Inv-loop μ-loop
+chunk-at-requires c κs =
+    let z = c .before .before .before .before .before .before in
+    let a = z .args in
+    let l = c .before .before .before .before .loop in
+    let w = c .before .wide32 .ensures in
+    (omega (arith, z .pre .count, c .before .before .before .loop-test .taken), finish-small (a .costs) (l .from) (getD (a .job .booking .shares) (l .i) 0) (z .pre .costs) (l .inv .2) (omega (arith, w .0, w .1)))
 
 returns-2 : tie.Need-returns-2 Inv-loop μ-loop
 returns-2 c =
     let z = c .before .before .before .before .before .before .before .before .before .before in
     let a = z .args in
     let l = c .before .before .before .before .before .before .before .before .loop in
-    let h = c .before .before .before .before .before .before .before .loop-test .taken in
     let us : a .job .booking .count ≤ length (a .job .booking .shares) = omega (arith, z .pre .count, shares-length (a .job) (z .good .1 .0)) in
-    sym (l .inv .3 ∙ shares-over (a .costs) (a .job .size) (a .job .deadline) (l .total) (l .from) (a .job .booking .shares) (l .i) (a .job .booking .count) h us (c .before .before .before .before .before .wide32 .result) (c .before .before .before .before .send-end .result) (c .before .before .chunk-end .result) (c .before .before .before .before .before .wide32 .ensures .0) (c .before .before .before .before .send-end .ensures .0) (c .before .before .chunk-end .ensures) (c .if2 .taken))
+    sym (l .inv .3 ∙ shares-over (a .costs) (a .job) (l .total) (l .from) (l .i) (c .before .before .before .before .before .before .before .loop-test .taken) us (c .before .before .before .chunk-at .result) (c .before .before .before .chunk-at .ensures) (c .if2 .taken))
 
 add-total : tie.Need-add-total Inv-loop μ-loop
 add-total c = search needs
@@ -74,9 +77,14 @@ loop-again c =
     let a = z .args in
     let l = c .before .before .before .before .before .before .before .before .loop in
     let h = c .before .before .before .before .before .before .before .loop-test .taken in
-    let us : a .job .booking .count ≤ length (a .job .booking .shares) = omega (arith, z .pre .count, shares-length (a .job) (z .good .1 .0)) in
-    let step = shares-step (a .costs) (a .job .size) (a .job .deadline) (l .total) (l .from) (a .job .booking .shares) (l .i) (a .job .booking .count) h us (c .before .before .before .before .before .wide32 .result) (c .before .before .before .before .send-end .result) (c .before .before .chunk-end .result) (c .before .before .before .before .before .wide32 .ensures .0) (c .before .before .before .before .send-end .ensures .0) (c .before .before .chunk-end .ensures) (c .before .before .before .if1 .left) (c .if2 .left) in
-    (omega arith, omega (arith, c .before .before .before .before .before .wide32 .ensures .1, l .inv .1), omega (arith, c .before .before .before .before .send-end .ensures .1, l .inv .2), l .inv .3 ∙ step)
+    let w = c .before .before .before .before .before .wide32 in
+    let x = c .before .before .before .chunk-at in
+    let us : a .job .booking .count ≤ length (a .job .booking .shares) = omega (arith, z .pre .count, shares-length (a .job) (z .good .1 .0)) in (
+      omega arith,
+      omega (arith, w .ensures .1, l .inv .1),
+      omega (arith, sent-finish (a .costs) (a .job) (l .total) (l .from) (l .i) h us (x .result) (x .ensures), c .if2 .left, z .pre .deadline),
+      l .inv .3 ∙ shares-step (a .costs) (a .job) (l .total) (l .from) (l .i) h us (x .result) (x .ensures) (w .result) (w .ensures .0) (c .before .before .before .before .if1 .left) (c .if2 .left),
+    )
 
 wide32-requires-2 : tie.Need-wide32-requires-2 Inv-loop μ-loop
 wide32-requires-2 c κs = search needs
@@ -91,7 +99,7 @@ returns-3 c =
     let all : l .i ≡ a .job .booking .count = omega arith in
     let test : c .and .result ≡ eqb (l .total) (a .job .size) && leb (l .from) (a .job .deadline) =
     c .and .ensures ∙ ap (λ (k : ℕ). eqb (l .total) k && leb (l .from) (a .job .deadline)) (c .before .before .wide322 .ensures .0) in
-    test ∙ sym (l .inv .3 ∙ ap (λ (k : ℕ). sharesKept (a .costs) (a .job .size) (a .job .deadline) (l .total) (l .from) (slice k (a .job .booking .count) (a .job .booking .shares))) all ∙ shares-none (a .costs) (a .job .size) (a .job .deadline) (l .total) (l .from) (a .job .booking .shares) (a .job .booking .count))
+    test ∙ sym (l .inv .3 ∙ ap (λ (k : ℕ). keptBehind (a .costs) (a .job .size) (a .job .deadline) (l .total) (l .from) (slice k (a .job .booking .count) (a .job .booking .shares))) all ∙ shares-none (a .costs) (a .job .size) (a .job .deadline) (l .total) (l .from) (a .job .booking .shares) (a .job .booking .count))
 
 pub shares-kept-spec : {M : Type 1} → statement M
 shares-kept-spec =
@@ -103,9 +111,8 @@ shares-kept-spec =
     mul-wide32
     element-copy-out-wide32
     wide32-requires
-    send-end-requires
     returns
-    chunk-end-requires
+    chunk-at-requires
     returns-2
     add-total
     add-i

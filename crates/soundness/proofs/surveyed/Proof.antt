@@ -8,8 +8,8 @@ use lib.Seq.{slice}
 use borrow.Author.Tests.{not-true, not-false}
 use Rattle.walk.specs.Model.{keysBy, startOf}
 use Rattle.walk.specs.Rows.{keys-more}
-use Rattle.soundness.specs.Model.{allPass, numbersOf}
-use Rattle.soundness.specs.Tests.{pass-more, pass-stop, pass-none, numbers-more}
+use Rattle.soundness.specs.Model.{jobsPass, numbersOf}
+use Rattle.soundness.specs.Steps.{pass-more, pass-stop, pass-none, numbers-more}
 use borrow.Author.Needs.{needs}
 use Rattle.soundness.proofs.surveyed.Statement.{statement}
 use Rattle.soundness.proofs.surveyed.Tie as tie
@@ -17,7 +17,7 @@ use Rattle.soundness.proofs.surveyed.Tie as tie
 abbrev Inv-loop : tie.InvT-loop
 Inv-loop figures count jobs numbers₀ keys₀ i₀ numbers keys i =
     (i ≤ count)
-    × (allPass figures (take count jobs) ≡ allPass figures (slice i count jobs))
+    × (jobsPass figures (take count jobs) ≡ jobsPass figures (slice i count jobs))
     × (length numbers ≡ 128)
     × (take i numbers ≡ numbersOf (take i jobs))
     × (length keys ≡ 128)
@@ -89,7 +89,7 @@ returns-2 c =
     let l = c .before .loop in
     let all : l .i ≡ a .count = omega arith in
     record {
-      tells = sym (l .inv .1 ∙ ap (λ (k : ℕ). allPass (a .figures) (slice k (a .count) (a .t2))) all ∙ pass-none (a .figures) (a .t2) (a .count));
+      tells = sym (l .inv .1 ∙ ap (λ (k : ℕ). jobsPass (a .figures) (slice k (a .count) (a .t2))) all ∙ pass-none (a .figures) (a .t2) (a .count));
       numbers = λ _. subst (λ (k : ℕ). take k (l .numbers) ≡ numbersOf (take k (a .t2))) all (l .inv .3);
       keys = λ _. subst (λ (k : ℕ). take k (l .keys) ≡ keysBy startOf 0 (take k (a .t2))) all (l .inv .5);
       many = l .inv .2;

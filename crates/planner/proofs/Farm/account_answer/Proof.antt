@@ -3,7 +3,8 @@ use mathlib.Core.Path.{_≡_, sym, _∙_}
 use native.Mathlib.Omega.{arith}
 use borrow.Author.Tests.{not-true, not-false}
 use Rattle.limits.specs.Says.{between-is}
-use Rattle.planner.specs.Asked.{passes-figures, account-unsound, account-unknown, account-told}
+use Rattle.planner.specs.PassesSteps.{passes-within}
+use Rattle.planner.specs.CallsSteps.{account-unsound, account-unknown, account-told}
 use borrow.Author.Needs.{needs}
 use Rattle.planner.proofs.Farm.account_answer.Statement.{statement}
 use Rattle.planner.proofs.Farm.account_answer.Tie as tie
@@ -27,7 +28,7 @@ returns-2 c =
 columns-requires : tie.Need-columns-requires
 columns-requires c κs =
     let a = c .before .before .before .before .before .before .args in
-    omega (arith, passes-figures (a .self) (sym (c .before .before .before .before .before .passes .ensures) ∙ not-false _ (c .before .before .before .before .if1 .left)) .shows, between-is 1 (a .show) (a .self .shows) (sym (c .before .before .before .between .ensures) ∙ not-false _ (c .before .before .if2 .left)))
+    omega (arith, passes-within (a .self) (sym (c .before .before .before .before .before .passes .ensures) ∙ not-false _ (c .before .before .before .before .if1 .left)) .shows, between-is 1 (a .show) (a .self .shows) (sym (c .before .before .before .between .ensures) ∙ not-false _ (c .before .before .if2 .left)))
 
 returns-3 : tie.Need-returns-3
 returns-3 c =

@@ -23,7 +23,7 @@ use Rattle.timetable.proofs.lines.write_lines.Met as write-thm
 use Rattle.planner.specs.Calls.{Replies}
 use Rattle.planner.specs.declared.Reply.{Reply}
 use Rattle.planner.specs.Clock.{moveSaid, moveFarm, moveLines}
-use Rattle.planner.specs.Moving.{due-asks, due-written, move-memory}
+use Rattle.planner.specs.ClockSteps.{due-asks, due-written, move-memory}
 use Rattle.planner.proofs.Structs as S
 use Rattle.planner.proofs.ClockMove.{ps, r, Post}
 use Rattle.planner.proofs.clock.moving.Kinds as moving-kinds

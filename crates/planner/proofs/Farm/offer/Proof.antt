@@ -9,7 +9,7 @@ use Rattle.walk.specs.declared.Job.{Job}
 use Rattle.planner.specs.Model.{waitingOf, termsOf, busyOf, byDeadline, booksAll}
 use Rattle.planner.specs.Calls.{newJob, nextFarm, ofNumber, yesOf}
 use Rattle.limits.specs.Says.{between-is}
-use Rattle.planner.specs.Offer.{asked-farm, asked-show, asked-size, asked-deadline, asked-queue, asked-all, offer-refused, offer-unbooked, offer-booked, deadline-is, place-is, Offered, PlanWith, plan-jobs, accepting}
+use Rattle.planner.specs.CallsSteps.{asked-farm, asked-show, asked-size, asked-deadline, asked-queue, asked-all, offer-refused, offer-unbooked, offer-booked, deadline-is, place-is, Offered, PlanWith, plan-jobs, accepting}
 use Rattle.planner.proofs.Sizes.{farm-free-length, jobs-length}
 use borrow.Author.Needs.{needs}
 use Rattle.planner.proofs.Farm.offer.Statement.{statement}

@@ -9,7 +9,7 @@ use borrow.Author.Tests.{not-true, not-false}
 use Rattle.planner.specs.Model.{between, costsWithin, allAtMost, greatest}
 use Rattle.planner.specs.Calls.{showsWithin}
 use Rattle.limits.specs.Says.{between-is}
-use Rattle.planner.specs.Opening.{no-nodes, no-costs, no-shows, opens}
+use Rattle.planner.specs.CallsSteps.{no-nodes, no-costs, no-shows, opens}
 use borrow.Author.Needs.{needs}
 use Rattle.planner.proofs.Farm.open.Statement.{statement}
 use Rattle.planner.proofs.Farm.open.Tie as tie

@@ -25,7 +25,7 @@ use Rattle.timetable.proofs.lines.write_lines.Met as write-thm
 use Rattle.planner.specs.Calls.{Replies}
 use Rattle.planner.specs.declared.Reply.{Reply}
 use Rattle.planner.specs.Clock.{shownSaid, shownMemory, shownLines}
-use Rattle.planner.specs.Moving.{due-asks, due-written, show-memory}
+use Rattle.planner.specs.ClockSteps.{due-asks, due-written, show-memory}
 use Rattle.planner.proofs.Structs as S
 use Rattle.planner.proofs.clock.showing.Kinds as showing-kinds
 use Rattle.planner.proofs.clock.showing.Reads as showing-reads

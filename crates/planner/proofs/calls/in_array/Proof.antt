@@ -5,7 +5,7 @@ use Prim.Native.Nat.{ℕ, _≤_, _-_}
 use native.Mathlib.Omega.{arith}
 use lib.ListN.{length, take, drop, getD, replicate, length-set, take-append-drop}
 use lib.Seq.{take-length}
-use Rattle.planner.specs.Rows.{copy-next}
+use Rattle.planner.specs.CallsSteps.{copy-next}
 use borrow.Author.Needs.{needs}
 use Rattle.planner.proofs.calls.in_array.Statement.{statement}
 use Rattle.planner.proofs.calls.in_array.Tie as tie

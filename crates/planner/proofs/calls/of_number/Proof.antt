@@ -8,7 +8,7 @@ use borrow.Author.Tests.{eq-eqb, ne-eqb}
 use Rattle.walk.specs.declared.Job.{Job}
 use Rattle.planner.specs.Model.{noJob}
 use Rattle.planner.specs.Calls.{ofNumber}
-use Rattle.planner.specs.Offer.{number-next}
+use Rattle.planner.specs.CallsSteps.{number-next}
 use borrow.Author.Needs.{needs}
 use Rattle.planner.proofs.calls.of_number.Statement.{statement}
 use Rattle.planner.proofs.calls.of_number.Tie as tie

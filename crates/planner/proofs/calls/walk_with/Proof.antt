@@ -3,7 +3,7 @@ use mathlib.Core.Path.{_≡_, ap, _∙_}
 use native.Mathlib.Omega.{arith}
 use Rattle.planner.specs.Model.{termsOf, busyOf, booksAll}
 use Rattle.planner.proofs.Sizes.{jobs-length}
-use Rattle.planner.specs.Offer.{Offered, ordered-is, walk-ready}
+use Rattle.planner.specs.CallsSteps.{Offered, ordered-is, walk-ready}
 use borrow.Author.Needs.{needs}
 use Rattle.planner.proofs.calls.walk_with.Statement.{statement}
 use Rattle.planner.proofs.calls.walk_with.Tie as tie

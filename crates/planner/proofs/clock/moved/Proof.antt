@@ -1,5 +1,5 @@
 -- `clock::moved` meets its contract: each field is what its part comes to.
-use Rattle.planner.specs.Moving.{begins-sends, begins-raises, moved-is}
+use Rattle.planner.specs.ClockSteps.{begins-sends, begins-raises, moved-is}
 use Rattle.planner.proofs.clock.moved.Statement.{statement}
 use Rattle.planner.proofs.clock.moved.Tie as tie
 

@@ -9,8 +9,8 @@ use Rattle.timetable.specs.Begin.{none-by}
 use Rattle.planner.specs.Model.{waitingOf}
 use Rattle.planner.specs.Passes.{passesOf}
 use Rattle.planner.specs.Clock.{issued}
-use Rattle.planner.specs.MoveKept.{move-unsound, move-untimely, move-unheld, move-asked}
-use Rattle.planner.specs.Moving.{waiting-few, begins-of, begins-few, move-stops, begun-lines, move-goes, unbegun-issues}
+use Rattle.planner.specs.ClockSteps.{move-unsound, move-untimely, move-unheld, move-asked}
+use Rattle.planner.specs.ClockSteps.{waiting-few, begins-of, begins-few, move-stops, begun-lines, move-goes, unbegun-issues}
 use Rattle.planner.proofs.Sizes.{farm-sized}
 use borrow.Author.Needs.{needs}
 use Rattle.planner.proofs.clock.moving.Statement.{statement}

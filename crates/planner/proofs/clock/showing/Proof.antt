@@ -8,8 +8,8 @@ use lib.ListN.{length, take}
 use Rattle.lists.specs.Laws.{All}
 use Rattle.planner.specs.Passes.{passesOf}
 use Rattle.planner.specs.Clock.{shown}
-use Rattle.planner.specs.MoveKept.{shown-unsound, shown-unheld, shown-asked}
-use Rattle.planner.specs.Moving.{CanBegin, waiting-few, by-start-can-begin, ordered-front, can-begin-few, shown-lines, show-stops, show-goes}
+use Rattle.planner.specs.ClockSteps.{shown-unsound, shown-unheld, shown-asked}
+use Rattle.planner.specs.ClockSteps.{CanBegin, waiting-few, by-start-can-begin, ordered-front, can-begin-few, shown-lines, show-stops, show-goes}
 use Rattle.planner.proofs.Sizes.{farm-sized}
 use borrow.Author.Needs.{needs}
 use Rattle.planner.proofs.clock.showing.Statement.{statement}

@@ -3,7 +3,7 @@ use mathlib.Core.Path.{ap, _∙_}
 use Prim.Native.Nat.{ℕ}
 use Rattle.planner.specs.Model.{between}
 use Rattle.limits.specs.Tests.{both}
-use Rattle.planner.specs.Tests.{countsWithin}
+use Rattle.planner.specs.Passes.{countsWithin}
 use borrow.Author.Needs.{needs}
 use Rattle.planner.proofs.passing.counts_within.Statement.{statement}
 use Rattle.planner.proofs.passing.counts_within.Tie as tie

@@ -3,7 +3,7 @@ use mathlib.Core.Path.{ap, _∙_}
 use Prim.Native.Nat.{ℕ}
 use lib.Dec.{leb}
 use Rattle.limits.specs.Tests.{both}
-use Rattle.planner.specs.Tests.{timesWithin}
+use Rattle.planner.specs.Passes.{timesWithin}
 use borrow.Author.Needs.{needs}
 use Rattle.planner.proofs.passing.times_within.Statement.{statement}
 use Rattle.planner.proofs.passing.times_within.Tie as tie

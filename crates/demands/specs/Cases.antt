@@ -8,11 +8,11 @@ use Rattle.shares.specs.Model.{finish, sum, first, left, capacity, cut, greedy,
 use Rattle.keys.specs.Model.{noLater, insertKey, sortOnto}
 use Rattle.booking.specs.Best.{units}
 use Rattle.booking.specs.Model.{nodeKeys, ranked, search, bookingOf, bookedAt, bookOf}
-use Rattle.soundness.specs.Model.{noneOf, allDiffer}
+use Rattle.soundness.specs.Model.{noneOf, allDiffer, jobWithin, sharesKept, jobKept, jobPasses, jobsPass}
 use Rattle.planner.specs.declared.Farm.{Farm}
 use Rattle.limits.specs.Model.{allAtMost, allAtLeast, costsWithin}
 use Rattle.planner.specs.Model.{chunksFrom, spansOfAll, afters, waitingOf, keysBy, plan, booksAll, fitAll}
-use Rattle.planner.specs.Passes.{figuresWithin, jobWithin, jobKept, jobsPass, passesOf}
+use Rattle.planner.specs.Passes.{countsWithin, timesWithin, waitingPass, passesOf}
 use Rattle.planner.specs.Calls.{Said, granted, refused, openFarm, ofNumber, offerAsked, offerSaid, offerFarm}
 
 -- an offer of a job
@@ -123,5 +123,5 @@ cases =
 
 -- every row comes out as expected
 pub cases-right : All Right cases
-unfolding run offered outcome openFarm offerAsked offerSaid offerFarm ofNumber passesOf figuresWithin costsWithin allAtMost allAtLeast jobsPass jobWithin jobKept noneOf allDiffer fitAll spansOfAll chunksFrom afters keysBy plan booksAll noLater insertKey sortOnto nodeKeys ranked search bookingOf bookedAt bookOf finish sum first left capacity cut greedy earliest
+unfolding run offered outcome openFarm offerAsked offerSaid offerFarm ofNumber passesOf countsWithin timesWithin waitingPass costsWithin allAtMost allAtLeast jobsPass jobPasses jobWithin jobKept sharesKept noneOf allDiffer fitAll spansOfAll chunksFrom afters keysBy plan booksAll noLater insertKey sortOnto nodeKeys ranked search bookingOf bookedAt bookOf finish sum first left capacity cut greedy earliest
 cases-right = (refl, (refl, (refl, (refl, (refl, (refl, (refl, (refl, (refl, (refl, (refl, (refl, (refl, tt)))))))))))))

@@ -8,12 +8,13 @@ use Rattle.shares.specs.Model.{first, left, capacity, cut, greedy, earliest, fi
 use Rattle.keys.specs.Model.{noLater, insertKey, sortOnto}
 use Rattle.booking.specs.Model.{nodeKeys, ranked, search, bookingOf, bookedAt, bookOf}
 use Rattle.walk.specs.declared.Chunk.{Chunk}
 use Rattle.planner.specs.Model.{chunksFrom, spansOfAll, afters, fitAll, keysBy, plan, booksAll, allAtMost, allAtLeast, costsWithin}
-use Rattle.planner.specs.Passes.{figuresWithin, jobWithin, jobKept, jobsPass, noneOf, allDiffer, passesOf}
+use Rattle.soundness.specs.Model.{noneOf, allDiffer, jobWithin, sharesKept, jobKept, jobPasses, jobsPass}
+use Rattle.planner.specs.Passes.{countsWithin, timesWithin, waitingPass, passesOf}
 use Rattle.planner.specs.Calls.{heldBy, openSaid, openFarm, ofNumber, offerAsked, offerSaid, offerFarm}
 use Rattle.planner.specs.Clock.{keep, linesOfAll, raised, moveAsked, moveSaid, moveFarm, moveMemory}
-use Rattle.planner.specs.Lists.{Call, offer, move, History, opening, run}
-use Rattle.planner.specs.Seam.{chunkOf}
+use Rattle.demands.specs.CallLists.{Call, offer, move, History, opening, run}
+use Rattle.demands.specs.BegunJobs.{chunkOf}
 
 -- m = 1, p = 2, no setups
 abbrev pub listed : Costs
@@ -41,5 +42,5 @@ pub record Printed (w : History) : Type 0 where
 
 -- The listing of document 01 leaves what it prints.
 pub listing : Printed afterListing
-unfolding first left capacity cut greedy earliest finish sum noLater insertKey sortOnto nodeKeys ranked search bookingOf bookedAt bookOf chunksFrom spansOfAll afters fitAll keysBy plan booksAll allAtMost allAtLeast costsWithin figuresWithin jobWithin jobKept jobsPass noneOf allDiffer passesOf openSaid openFarm ofNumber offerAsked offerSaid offerFarm keep linesOfAll raised moveAsked moveSaid moveFarm moveMemory run
+unfolding first left capacity cut greedy earliest finish sum noLater insertKey sortOnto nodeKeys ranked search bookingOf bookedAt bookOf chunksFrom spansOfAll afters fitAll keysBy plan booksAll allAtMost allAtLeast costsWithin countsWithin timesWithin jobWithin sharesKept jobKept jobPasses jobsPass noneOf allDiffer waitingPass passesOf openSaid openFarm ofNumber offerAsked offerSaid offerFarm keep linesOfAll raised moveAsked moveSaid moveFarm moveMemory run
 listing = record { chunks = refl; clock = refl; held = (refl, refl); jobs = refl; waiting = refl }

@@ -16,21 +16,23 @@ use Rattle.walk.specs.declared.Job.{Job}
 use Rattle.walk.specs.declared.Terms.{Terms}
 use Rattle.walk.specs.declared.Busy.{Busy}
 use Rattle.walk.specs.declared.Chunk.{Chunk}
 use Rattle.planner.specs.declared.Farm.{Farm}
 use Rattle.planner.specs.Model.{greatest, between, costsWithin, Span, linesOf, spansOf, spansOfAll, Sized, afters, waitingOf, busyOf, termsOf, busyAfter, plan, Between}
 use Rattle.planner.specs.Passes.{passesOf}
 use Rattle.walk.specs.Chain.{Chain, chain-append, Proper, job-finish, afters-length}
 use Rattle.walk.specs.Order.{by-deadline-perm}
 use Rattle.soundness.specs.Sweep.{spans-all}
-use Rattle.planner.specs.Sound.{Paired, passes-iff}
+use Rattle.soundness.specs.Sound.{Paired}
+use Rattle.demands.specs.QuestionEleven.{passes-iff}
 use Rattle.planner.specs.Calls.{openedWith, showsWithin, openFarm, heldBy, newJob, queueOf, planned, withPlan}
-use Rattle.planner.specs.Kept.{all-replicate, opens-with, open-sized, open-passes, waiting-planned, accepted-sized, accepted-passes}
+use Rattle.demands.specs.OfferPasses.{all-replicate, opens-with, open-sized, open-passes, waiting-planned, accepted-sized, accepted-passes}
 use Rattle.planner.specs.Clock.{begun, left, issued, movedFarm}
-use Rattle.planner.specs.Lists.{Call, offer, move, Accepted, History, opening, note, run, heldOf, upTo, acceptedOf}
+use Rattle.demands.specs.CallLists.{Call, offer, move, Accepted, History, opening, note, run, heldOf, upTo, acceptedOf}
 use Rattle.timetable.specs.Begin.{afters-append}
-use Rattle.planner.specs.Seam.{begun-left, spans-append, chunkOf, spans-chunks, afters-within, sum-within, held-part, held-append, held-free, raised-held}
-use Rattle.planner.specs.MoveKept.{Waiting, moved-chain, begun-jobs, moved-waiting, moved-sized, moved-passes}
-use Rattle.planner.specs.Outcome.{Refused, taken, Takes, Moves, outcome, chunks-named}
+use Rattle.demands.specs.BegunJobs.{begun-left, spans-append, chunkOf, spans-chunks}
+use Rattle.demands.specs.HeldTicks.{afters-within, sum-within, held-part, held-append, held-free, raised-held}
+use Rattle.demands.specs.MovePasses.{Waiting, moved-chain, begun-jobs, moved-waiting, moved-sized, moved-passes}
+use Rattle.demands.specs.Outcome.{Refused, taken, Takes, Moves, outcome, chunks-named}
 
 -- ---- The invariant
 
@@ -106,11 +108,11 @@ open-inv n c al e =
 
 -- ---- A world by its parts
 
-abbrev worldOf : Farm → List Span → List Accepted → List Job → ℕ → History
-worldOf f l j p t = record { farm = f; lines = l; jobs = j; latest = p; time = t }
+abbrev historyOf : Farm → List Span → List Accepted → List Job → ℕ → History
+historyOf f l j p t = record { farm = f; lines = l; jobs = j; latest = p; time = t }
 
 -- Worlds with the same parts are the same.
-same-world : {f g : Farm} {k l : List Span} {i j : List Accepted} {p q : List Job} {t u : ℕ} → f ≡ g → k ≡ l → i ≡ j → p ≡ q → t ≡ u → worldOf f k i p t ≡ worldOf g l j q u
+same-world : {f g : Farm} {k l : List Span} {i j : List Accepted} {p q : List Job} {t u : ℕ} → f ≡ g → k ≡ l → i ≡ j → p ≡ q → t ≡ u → historyOf f k i p t ≡ historyOf g l j q u
 same-world a b c d e = rw (a, b, c, d, e)
 
 -- ---- A refused call
@@ -131,7 +133,7 @@ plan-accepted w b (j ∷ js) = ap (λ (l : List Accepted). acceptedOf j ∷ l) (
 
 module _ (w : History) (s z d : ℕ) where
   abbrev offered : History
-  offered = worldOf (withPlan (w .farm) (planned (w .farm) s z d)) (w .lines) (w .jobs ++ taken (w .farm) s z d ∷ []) (planned (w .farm) s z d) (w .time)
+  offered = historyOf (withPlan (w .farm) (planned (w .farm) s z d)) (w .lines) (w .jobs ++ taken (w .farm) s z d ∷ []) (planned (w .farm) s z d) (w .time)
 
   takes-note : Takes (w .farm) s z d → note w (offer s z d) ≡ offered
   takes-note k = same-world (k .hands) (append-nil (w .lines)) (ap (λ (l : List Accepted). w .jobs ++ l) (k .jobs)) (k .latest (w .latest)) refl
@@ -218,7 +220,7 @@ held-limit c n s js h k =
 
 module _ (w : History) (t : ℕ) (m : List Chunk) where
   abbrev moved : History
-  moved = worldOf (movedFarm (w .farm) t) (w .lines ++ spansOfAll (w .farm .costs) (begun (w .farm) t)) (w .jobs) (w .latest) t
+  moved = historyOf (movedFarm (w .farm) t) (w .lines ++ spansOfAll (w .farm .costs) (begun (w .farm) t)) (w .jobs) (w .latest) t
 
   moves-note : Moves (w .farm) t m → note w (move t m) ≡ moved
   moves-note k = same-world (k .hands) (ap (λ (l : List Span). w .lines ++ l) (k .lines)) (append-nil (w .jobs)) refl (k .time (w .time))

@@ -1,41 +1,39 @@
--- Question 11 is kept: a granted opening hands back a farm that passes it, and so does every offer to a farm that passes it.
+-- A granted opening hands back a farm that passes question 11, and so does every offer to a farm that passes it.
 use mathlib.Core.Path.{_≡_, refl, ap, sym, subst, _∙_}
 use mathlib.Core.List.{List, [], _∷_, _++_, map, List·Permᴰ·trans, List·Permᴰ·append-comm, Permᴰ·map}
 use mathlib.Core.Bool.{Bool, true, false, cond, _&&_}
-use Prim.Native.Nat.{ℕ, zero, suc, _+_, _-_, _≤_, _<_}
-use native.Mathlib.Nat.{mul-le-mul-right}
+use Prim.Native.Nat.{ℕ, zero, suc, _+_, _-_, _≤_}
 use native.Mathlib.Omega.{arith}
 use borrow.Author.Tests.{eqb-true}
-use lib.Dec.{leb, ltb, eqb}
-use lib.ListN.{length, take, drop, set, replicate, length-append, length-drop, length-replicate, take-append-drop}
+use lib.Dec.{eqb}
+use lib.ListN.{length, take, drop, replicate, length-append, length-drop, length-replicate, take-append-drop}
 use lib.Seq.{take-at, length-take-le}
 use Rattle.lists.specs.Laws.{All, Pairs, Differ, all-map, all-both, all-image, all-take, all-append, all-join, perm-all, perm-pairs, perm-length}
 use Rattle.shares.specs.declared.Costs.{Costs}
-use Rattle.shares.specs.Model.{sendEnd, chunkFinish, finish}
-use Rattle.shares.specs.Lists.{Positive}
 use Rattle.shares.specs.Chunks.{finish-latest}
 use Rattle.booking.specs.declared.Booking.{Booking}
 use Rattle.booking.specs.Model.{bookingOf}
-use Rattle.booking.specs.Best.{freeAt, chosen, units, Best}
+use Rattle.booking.specs.Best.{chosen, units, Best}
 use Rattle.booking.specs.Booked.{some-share}
 use Rattle.walk.specs.declared.Job.{Job}
-use Rattle.walk.specs.declared.Terms.{Terms}
 use Rattle.walk.specs.declared.Busy.{Busy}
 use Rattle.planner.specs.declared.Farm.{Farm}
-use Rattle.walk.specs.declared.Chunk.{Chunk}
-use Rattle.planner.specs.Model.{greatest, between, allAtMost, costsWithin, emptyJob, chunksFrom, linesOf, spansOf, spansOfAll, JobSized, Sized, after, afters, waitingOf, busyOf, termsOf, requestOf, step, busyAfter, plan, Apart, Between}
-use Rattle.planner.specs.Passes.{passesOf, JobWithin, JobSound, Passes}
+use Rattle.planner.specs.Model.{greatest, between, allAtMost, costsWithin, emptyJob, spansOfAll, JobSized, Sized, after, waitingOf, busyOf, termsOf, requestOf, step, Apart, Between}
+use Rattle.planner.specs.Passes.{figuresOf, passesOf, JobWithin, JobSound, Within, Passes}
 use Rattle.planner.specs.Calls.{unopened, openedWith, showsWithin, openFarm, newJob, queueOf, planned, accepts, withPlan, offerAsked, offerFarm}
-use Rattle.walk.specs.Chain.{Fits, Chain, chain-job, Proper, free-other, afters-length, chain-follows, chain-apart, job-proper}
+use Rattle.walk.specs.Chain.{Fits, Chain, Proper, chain-follows, chain-apart}
 use Rattle.walk.specs.Order.{by-deadline-perm}
 use Rattle.limits.specs.Says.{says-costs, says-at-most, between-is}
 use Rattle.soundness.specs.Sweep.{spans-each, spans-all}
-use Rattle.planner.specs.Sound.{Figures, Kept, Behind, Paired, fits-behind, passes-iff}
-use Rattle.planner.specs.Asked.{and-left, and-right, passes-figures, passes-jobs}
+use Rattle.soundness.specs.Sound.{JobKept, Behind, Paired, fits-behind, job-spans}
+use Rattle.demands.specs.QuestionEleven.{passes-iff}
+use Rattle.limits.specs.Tests.{and-both}
+use Rattle.planner.specs.PassesSteps.{passes-within, passes-jobs}
 use Rattle.walk.specs.Walk.{best-sends}
 use Rattle.walk.specs.Booked.{BestAll, walk-best}
 use Rattle.walk.specs.Plan.{plan-chain, plan-all, plan-numbers, plan-length}
-use Rattle.planner.specs.Offer.{walk-ready, Granted, asked-granted}
+use Rattle.planner.specs.CallsSteps.{walk-ready}
+use Rattle.demands.specs.Offers.{Granted, asked-granted}
 
 -- ---- An opening
 
@@ -69,7 +67,7 @@ opened-sized n c al h = record {
 opened-passes : (n : ℕ) (c : Costs) (al : List ℕ) → between 1 n 64 ≡ true → costsWithin c ≡ true → showsWithin al ≡ true → Passes (openedWith n c al)
 unfolding spansOfAll
 opened-passes n c al a b d =
-    let s = between-is 1 (length al) 32 (and-left (between 1 (length al) 32) (allAtMost greatest al) d) in
+    let s = between-is 1 (length al) 32 (and-both (between 1 (length al) 32) (allAtMost greatest al) d .0) in
     let front : take (length al) (al ++ replicate (32 - length al) 0) ≡ al = take-at al (replicate (32 - length al) 0) (length al) refl in
     record {
       opened = refl;
@@ -77,15 +75,15 @@ opened-passes n c al a b d =
         nodes = between-is 1 n 64 a;
         costs = says-costs c .yields b;
         shows = s;
-        allowances = rw front (says-at-most greatest al .yields (and-right (between 1 (length al) 32) (allAtMost greatest al) d));
+        allowances = rw front (says-at-most greatest al .yields (and-both (between 1 (length al) 32) (allAtMost greatest al) d .1));
         held = all-take (λ (x : ℕ). x ≤ 64_000_000_000_000) (length al) (replicate 32 0) (all-replicate (λ (x : ℕ). x ≤ 64_000_000_000_000) 32 0 (omega arith));
         clock = omega arith;
         link = omega arith;
         free = all-take (λ (x : ℕ). x ≤ greatest) n (replicate 64 0) (all-replicate (λ (x : ℕ). x ≤ greatest) 64 0 (omega arith));
         used = omega arith;
         waiting = omega arith;
-        jobs = tt;
       };
+      jobs = tt;
       sound = record { jobs = tt; apart = tt; differ = tt };
     }
 
@@ -97,8 +95,8 @@ opens-with n c al e = ap (λ (b : Bool). cond b (openedWith n c al) unopened) e
 opening-asked : (n : ℕ) (c : Costs) (al : List ℕ) → (between 1 n 64 && costsWithin c && showsWithin al) ≡ true
     → (between 1 n 64 ≡ true) × (costsWithin c ≡ true) × (showsWithin al ≡ true)
 opening-asked n c al e =
-    let p = and-left (between 1 n 64 && costsWithin c) (showsWithin al) e in
-    (and-left (between 1 n 64) (costsWithin c) p, and-right (between 1 n 64) (costsWithin c) p, and-right (between 1 n 64 && costsWithin c) (showsWithin al) e)
+    let p = and-both (between 1 n 64 && costsWithin c) (showsWithin al) e .0 in
+    (and-both (between 1 n 64) (costsWithin c) p .0, and-both (between 1 n 64) (costsWithin c) p .1, and-both (between 1 n 64 && costsWithin c) (showsWithin al) e .1)
 
 -- An opening, granted or not, hands back a farm with its arrays.
 pub open-sized : (n : ℕ) (c : Costs) (al : List ℕ) → Sized (openFarm n c al)
@@ -108,7 +106,7 @@ open-sized n c al = go (between 1 n 64 && costsWithin c && showsWithin al) refl
     go : (b : Bool) → (between 1 n 64 && costsWithin c && showsWithin al) ≡ b → Sized (cond b (openedWith n c al) unopened)
     go true e =
         let q = opening-asked n c al e in
-        opened-sized n c al (between-is 1 (length al) 32 (and-left (between 1 (length al) 32) (allAtMost greatest al) (q .2)) .1)
+        opened-sized n c al (between-is 1 (length al) 32 (and-both (between 1 (length al) 32) (allAtMost greatest al) (q .2) .0) .1)
     go false e = unopened-sized
 
 -- A granted opening hands back a farm that passes question 11.
@@ -131,8 +129,8 @@ pub record HeadWithin (u s : ℕ) (j : Job) : Type 0 where
 
 -- a job of a plan: its figures within the farm's limits, its booking kept, and arrays of their lengths
 pub record Planned (f : Farm) (j : Job) : Type 0 where
-  pub within : JobWithin f j
-  pub kept : Kept f j
+  pub within : JobWithin (figuresOf f) j
+  pub kept : JobKept (figuresOf f) j
   pub paired : Paired j
   pub sized : JobSized j
 
@@ -191,14 +189,14 @@ queue-differ f s z d p =
     let ws = waitingOf f in
     let j = newJob f s z d in
     let new : All (λ (y : ℕ). f .used + 1 ≡ y → ⊥) (map (λ (x : Job). x .number) ws) =
-    all-image (λ (y : ℕ). f .used + 1 ≡ y → ⊥) (λ (x : Job). x .number) ws (all-map (λ x a e. omega (arith, a .number .1)) ws (p .within .jobs)) in
+    all-image (λ (y : ℕ). f .used + 1 ≡ y → ⊥) (λ (x : Job). x .number) ws (all-map (λ x a e. omega (arith, a .number .1)) ws (p .jobs)) in
     perm-pairs (λ (a b : ℕ). a ≡ b → ⊥) (λ a b n e. n (sym e))
     (Permᴰ·map (λ (x : Job). x .number) (List·Permᴰ·trans (List·Permᴰ·append-comm (j ∷ []) ws) (by-deadline-perm (ws ++ j ∷ []))))
     (new, p .sound .differ)
 
 module _ (f : Farm) (s z d : ℕ) (sized : Sized f) (g : Granted f s z d) (yes′ : accepts f s z d ≡ true) where
-  figures : Figures f
-  figures = passes-figures f (g .passes)
+  figures : Within f
+  figures = passes-within f (g .passes)
 
   best : BestAll (termsOf f) (busyOf f) (queueOf f s z d)
   best =
@@ -236,17 +234,16 @@ module _ (f : Farm) (s z d : ℕ) (sized : Sized f) (g : Granted f s z d) (yes�
   spans-proper : All (Proper 64) (spansOfAll (f .costs) (planned f s z d))
   spans-proper =
       spans-all (Proper 64) (f .costs) (planned f s z d)
-      (all-map (λ j h. job-proper (f .costs) 64 j (figures .costs .send .0) (all-map (λ k b. (b .0, omega (arith, b .1, figures .nodes .1))) (chosen (j .booking)) (h .within .nodes)) (h .kept .each))
-      (planned f s z d) jobs-planned)
+      (all-map (λ j h. job-spans (figuresOf (withPlan f (planned f s z d))) j (record { nodes = figures .nodes .1; costs = figures .costs }) (h .within) (h .kept .each)) (planned f s z d) jobs-planned)
 
   chain : Chain (busyOf f) (spansOfAll (f .costs) (planned f s z d))
   chain = plan-chain (termsOf f) (busyOf f) (queueOf f s z d) best
 
   -- Each job of the plan is behind the farm's free times.
-  jobs-behind : All (Behind (withPlan f (planned f s z d))) (planned f s z d)
+  jobs-behind : All (Behind (busyOf f)) (planned f s z d)
   jobs-behind =
       let fits = spans-each (Fits (busyOf f)) (f .costs) (planned f s z d) (chain-follows (busyOf f) (spansOfAll (f .costs) (planned f s z d)) (sized .free) spans-proper .0 chain .0) in
-      all-both (λ j h k. fits-behind (withPlan f (planned f s z d)) (f .costs) j (h .paired) k) (planned f s z d) jobs-planned fits
+      all-both (λ j h k. fits-behind (busyOf f) (f .costs) j (h .paired) k) (planned f s z d) jobs-planned fits
 
   -- An accepted offer hands back a farm that passes question 11.
   pub accepted-passes : Passes (withPlan f (planned f s z d))
@@ -267,10 +264,10 @@ module _ (f : Farm) (s z d : ℕ) (sized : Sized f) (g : Granted f s z d) (yes�
           free = w .free;
           used = omega (arith, g .used);
           waiting = omega (arith, g .waiting);
-          jobs = subst (All (JobWithin farm)) (sym waiting-planned) (all-map (λ j h. h .within) (planned f s z d) jobs-planned);
         };
+        jobs = subst (All (JobWithin (figuresOf farm))) (sym waiting-planned) (all-map (λ j h. h .within) (planned f s z d) jobs-planned);
         sound = record {
-          jobs = subst (All (JobSound farm)) (sym waiting-planned)
+          jobs = subst (All (JobSound (figuresOf farm) (busyOf farm))) (sym waiting-planned)
               (all-both (λ j h b. record { clock = h .kept .clock; link = b .0; free = b .1; each = h .kept .each; all = h .kept .all; ends = h .kept .ends }) (planned f s z d) jobs-planned jobs-behind);
           apart = subst (λ (l : List Job). Pairs Apart (spansOfAll (f .costs) l)) (sym waiting-planned) (chain-apart (busyOf f) (spansOfAll (f .costs) (planned f s z d)) (sized .free) spans-proper chain);
           differ = subst (λ (l : List Job). Differ (map (λ (j : Job). j .number) l)) (sym waiting-planned)

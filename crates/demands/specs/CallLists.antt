@@ -143,7 +143,7 @@ abbrev pub FromFirst : List Span → Type 0
 FromFirst [] = Unit
 FromFirst (y ∷ ys) = All (λ (x : Span). x .from ≡ y .chunk .start) (y ∷ ys)
 
--- ---- The story of a job
+-- ---- The lifecycle of a job
 
 -- it waits, and its booked chunks do what was accepted
 pub record Waits (x : Accepted) (f : Farm) : Type 0 where

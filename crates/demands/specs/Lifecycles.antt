@@ -16,21 +16,23 @@ use Rattle.shares.specs.Lists.{Positive}
 use Rattle.booking.specs.Best.{chosen, units}
 use Rattle.walk.specs.declared.Job.{Job}
 use Rattle.walk.specs.declared.Chunk.{Chunk}
 use Rattle.planner.specs.declared.Farm.{Farm}
 use Rattle.planner.specs.Model.{Span, chunksFrom, linesOf, spansOf, spansOfAll, Sized, waitingOf, busyOf, termsOf}
 use Rattle.planner.specs.Passes.{passesOf}
 use Rattle.walk.specs.Chain.{chunks-finish}
 use Rattle.walk.specs.Order.{by-deadline-perm}
 use Rattle.walk.specs.Plan.{plan-numbers}
 use Rattle.soundness.specs.Sweep.{spans-all}
 use Rattle.planner.specs.Calls.{newJob, queueOf, planned, withPlan}
-use Rattle.planner.specs.Kept.{waiting-planned}
+use Rattle.demands.specs.OfferPasses.{waiting-planned}
 use Rattle.planner.specs.Clock.{startsBy, startsAfter, begun, left, movedFarm}
-use Rattle.planner.specs.Lists.{Call, offer, move, handed, linesBy, Accepted, History, note, linesFor, unitsIn, acceptedOf, Fulfils, FromFirst, Waits, NoneOf, IssuesNone, Lifecycle, waits, passes, begins}
-use Rattle.planner.specs.Seam.{keep-all, begun-left, numberOfJob}
-use Rattle.planner.specs.MoveKept.{Waiting, waiting-jobs, waiting-differ, begun-jobs, moved-waiting}
-use Rattle.planner.specs.Outcome.{Refused, Takes, Moves, outcome, chunks-named}
-use Rattle.planner.specs.Invariant.{Whole, Inv, waiting-whole, plan-accepted, note-inv}
+use Rattle.demands.specs.CallLists.{Call, offer, move, handed, linesBy, Accepted, History, note, linesFor, unitsIn, acceptedOf, Fulfils, FromFirst, Waits, NoneOf, IssuesNone, Lifecycle, waits, passes, begins}
+use Rattle.timetable.specs.Keep.{keep-all}
+use Rattle.demands.specs.BegunJobs.{begun-left}
+use Rattle.demands.specs.JobNumbers.{numberOfJob}
+use Rattle.demands.specs.MovePasses.{Waiting, waiting-jobs, waiting-differ, begun-jobs, moved-waiting}
+use Rattle.demands.specs.Outcome.{Refused, Takes, Moves, outcome, chunks-named}
+use Rattle.demands.specs.Invariant.{Whole, Inv, waiting-whole, plan-accepted, note-inv}
 
 -- ---- Membership
 
@@ -223,7 +225,7 @@ begun-no-longer-waits f t j z e m = record {
   none = subst (All (λ (i : Job). i .number ≡ j .number → ⊥)) (sym (moved-waiting f z e t)) (none-behind (begun f t) (left f t) (begun-differ f t z e) j m);
 }
 
--- ---- The story
+-- ---- The lifecycle
 
 -- accepted as x, it waits
 abbrev pub Among : Accepted → Farm → Type 0
@@ -247,8 +249,8 @@ among-offer x f s y d z m =
     ⊎-elim (λ r. subst (Among x) (sym (r .hands)) m) (λ k. subst (Among x) (sym (k .hands)) (among-takes x f s y d z k m)) (outcome f (offer s y d) z)
 
 -- the job begins by this move
-story-begins : (x : Accepted) (w : History) (t : ℕ) (ms : List Chunk) (cs : List Call) → Inv w → Moves (w .farm) t ms → List·Memᴰ x (map acceptedOf (begun (w .farm) t)) → Lifecycle x (w .farm) (move t ms ∷ cs)
-story-begins x w t ms cs i k m =
+lifecycle-begins : (x : Accepted) (w : History) (t : ℕ) (ms : List Chunk) (cs : List Call) → Inv w → Moves (w .farm) t ms → List·Memᴰ x (map acceptedOf (begun (w .farm) t)) → Lifecycle x (w .farm) (move t ms ∷ cs)
+lifecycle-begins x w t ms cs i k m =
     let f = w .farm in
     let r = from-image acceptedOf (begun f t) m in
     let j = r .it in
@@ -262,9 +264,9 @@ story-begins x w t ms cs i k m =
     (subst (λ (a : ℕ). NoLongerWaits a (handed f (move t ms))) n (subst (NoLongerWaits (j .number)) (sym (k .hands)) (begun-no-longer-waits f t j (i .sized) (i .passes) (r .among)))))
 
 -- the job waits on over this move
-story-passes : (x : Accepted) (w : History) (t : ℕ) (ms : List Chunk) (cs : List Call) → Inv w → Moves (w .farm) t ms → List·Memᴰ x (map acceptedOf (left (w .farm) t))
+lifecycle-passes : (x : Accepted) (w : History) (t : ℕ) (ms : List Chunk) (cs : List Call) → Inv w → Moves (w .farm) t ms → List·Memᴰ x (map acceptedOf (left (w .farm) t))
     → (Among x (handed (w .farm) (move t ms)) → Lifecycle x (handed (w .farm) (move t ms)) cs) → Lifecycle x (w .farm) (move t ms ∷ cs)
-story-passes x w t ms cs i k m rest =
+lifecycle-passes x w t ms cs i k m rest =
     let f = w .farm in
     let r = from-image acceptedOf (left f t) m in
     let j = r .it in
@@ -278,17 +280,17 @@ story-passes x w t ms cs i k m rest =
     (rest (subst (Among x) (sym (k .hands)) (subst (λ (l : List Job). List·Memᴰ x (map acceptedOf l)) (sym (moved-waiting f (i .sized) (i .passes) t)) m)))
 
 -- Each job that waits is issued by the first granted clock move to reach the start it has then, and never again.
-pub story : (x : Accepted) (w : History) (cs : List Call) → Inv w → Among x (w .farm) → Lifecycle x (w .farm) cs
-story x w [] i m = waits (among-waits x (w .farm) (i .sized) (i .passes) m)
-story x w (offer s y d ∷ cs) i m =
+pub lifecycle : (x : Accepted) (w : History) (cs : List Call) → Inv w → Among x (w .farm) → Lifecycle x (w .farm) cs
+lifecycle x w [] i m = waits (among-waits x (w .farm) (i .sized) (i .passes) m)
+lifecycle x w (offer s y d ∷ cs) i m =
     passes {c = offer s y d} (among-waits x (w .farm) (i .sized) (i .passes) m) (λ q. q) tt
-    (story x (note w (offer s y d)) cs (note-inv w (offer s y d) i) (among-offer x (w .farm) s y d (i .sized) m))
-story x w (move t ms ∷ cs) i m = go (λ h. story x (note w (move t ms)) cs (note-inv w (move t ms) i) h) (outcome (w .farm) (move t ms) (i .sized))
+    (lifecycle x (note w (offer s y d)) cs (note-inv w (offer s y d) i) (among-offer x (w .farm) s y d (i .sized) m))
+lifecycle x w (move t ms ∷ cs) i m = go (λ h. lifecycle x (note w (move t ms)) cs (note-inv w (move t ms) i) h) (outcome (w .farm) (move t ms) (i .sized))
   where
     go : (Among x (handed (w .farm) (move t ms)) → Lifecycle x (handed (w .farm) (move t ms)) cs) → Refused (w .farm) (move t ms) ⊎ Moves (w .farm) t ms → Lifecycle x (w .farm) (move t ms ∷ cs)
     go rest (inl r) =
         passes {c = move t ms} (among-waits x (w .farm) (i .sized) (i .passes) m) (λ q. false≢true (sym (r .says) ∙ q .0)) (subst (NoneOf (x .number)) (sym (r .lines)) tt) (rest (subst (Among x) (sym (r .hands)) m))
     go rest (inr k) =
-        ⊎-elim (λ h. story-begins x w t ms cs i k h) (λ h. story-passes x w t ms cs i k h rest)
+        ⊎-elim (λ h. lifecycle-begins x w t ms cs i k h) (λ h. lifecycle-passes x w t ms cs i k h rest)
         (List·Memᴰ·append-cases (map acceptedOf (begun (w .farm) t))
         (subst (List·Memᴰ x) (map-join acceptedOf (begun (w .farm) t) (left (w .farm) t)) (perm-mem (Permᴰ·map acceptedOf (begun-left (w .farm) t)) m)))

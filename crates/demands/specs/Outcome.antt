@@ -14,17 +14,19 @@ use Rattle.shares.specs.Model.{sendEnd}
 use Rattle.booking.specs.Best.{chosen, units}
 use Rattle.walk.specs.declared.Job.{Job}
 use Rattle.walk.specs.declared.Chunk.{Chunk}
 use Rattle.planner.specs.declared.Farm.{Farm}
 use Rattle.planner.specs.Model.{chunksFrom, linesOf, spansOf, spansOfAll, Sized, byStart, waitingOf, busyOf, termsOf}
 use Rattle.planner.specs.Passes.{passesOf}
 use Rattle.walk.specs.Order.{by-start-perm, by-deadline-perm}
 use Rattle.walk.specs.Plan.{plan-numbers}
 use Rattle.planner.specs.Calls.{granted, ofNumber, newJob, queueOf, planned, accepts, withPlan, offerAsked, offerSaid, offerFarm}
-use Rattle.planner.specs.Offer.{Granted, asked-granted}
+use Rattle.demands.specs.Offers.{Granted, asked-granted}
 use Rattle.planner.specs.Clock.{startsBy, begun, linesOfAll, issued, movedFarm, moveAsked, moveSaid, moveFarm, moveMemory}
-use Rattle.planner.specs.Lists.{Call, offer, move, handed, isGranted, withStart, linesBy, Accepted, jobsBy, planBy, timeBy}
-use Rattle.planner.specs.Seam.{keep-all, numberOfJob, of-number-is, of-number-found}
-use Rattle.planner.specs.MoveKept.{MoveGranted, move-granted, waiting-differ}
+use Rattle.demands.specs.CallLists.{Call, offer, move, handed, isGranted, withStart, linesBy, Accepted, jobsBy, planBy, timeBy}
+use Rattle.timetable.specs.Keep.{keep-all}
+use Rattle.demands.specs.JobNumbers.{numberOfJob, of-number-is, of-number-found}
+use Rattle.planner.specs.ClockSteps.{MoveGranted, move-granted}
+use Rattle.demands.specs.MovePasses.{waiting-differ}
 
 -- a refused call: the farm as it was, and nothing to note
 pub record Refused (f : Farm) (c : Call) : Type 0 where

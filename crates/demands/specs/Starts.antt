@@ -1,9 +1,9 @@
 -- Waiting jobs start at different ticks, since their first sends share no tick of the link. So a move to the next start begins one job, and a
 -- timetable of 64 records holds its lines: after a refusal with 10 shorter moves get through.
-use mathlib.Core.Path.{_≡_, refl, ap, sym, subst, _∙_}
-use mathlib.Core.List.{List, [], _∷_, _++_, map, List·Memᴰ}
+use mathlib.Core.Path.{_≡_, refl, sym, _∙_}
+use mathlib.Core.List.{List, [], _∷_, map, List·Memᴰ}
 use mathlib.Core.Bool.{Bool, true, false, cond}
-use Prim.Native.Nat.{ℕ, zero, suc, _*_, _≤_, _<_}
+use Prim.Native.Nat.{ℕ, _≤_}
 use native.Mathlib.Omega.{arith}
 use borrow.Author.Tests.{leb-true, le-leb}
 use lib.ListN.{length}
@@ -15,13 +15,14 @@ use Rattle.walk.specs.declared.Chunk.{Chunk}
 use Rattle.walk.specs.Chain.{Proper}
 use Rattle.walk.specs.Order.{by-start-perm}
 use Rattle.soundness.specs.Sweep.{spans-each}
 use Rattle.planner.specs.declared.Farm.{Farm}
 use Rattle.planner.specs.Model.{greatest, between, chunksFrom, Span, spansOf, spansOfAll, byStart, waitingOf, Sized, Apart}
 use Rattle.planner.specs.Passes.{passesOf}
-use Rattle.planner.specs.Sound.{Paired, passes-iff}
+use Rattle.demands.specs.QuestionEleven.{passes-iff}
 use Rattle.planner.specs.Clock.{keep, startsBy, begun, issued, moveAsked}
-use Rattle.planner.specs.Seam.{keep-all}
-use Rattle.planner.specs.MoveKept.{Waiting, waiting-jobs, begun-jobs, lines-few, move-asked}
+use Rattle.timetable.specs.Keep.{keep-all}
+use Rattle.planner.specs.ClockSteps.{move-asked}
+use Rattle.demands.specs.MovePasses.{Waiting, waiting-jobs, begun-jobs, lines-few}
 
 -- two jobs start at different ticks
 abbrev pub StartsDiffer : Job → Job → Type 0

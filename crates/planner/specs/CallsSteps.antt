@@ -1,44 +1,98 @@
--- An offer, question by question: it is refused at the first answered no, the farm as it was, and accepted exactly when the walk books the
--- waiting jobs and the new one; then the next farm holds that plan.
-use mathlib.Core.Path.{_≡_, refl, ap, sym, subst, _∙_}
+-- Opening, offers and accounts, question by question: what the functions of src/calls.rt need and promise each other.
+use mathlib.Core.Path.{_≡_, refl, ap, sym, _∙_}
 use mathlib.Core.List.{List, [], _∷_, _++_}
-use mathlib.Core.Bool.{Bool, true, false, cond, _&&_, false≢true}
-use mathlib.Core.Logic.{_⊎_, inl, inr, ⊎-elim}
-use Prim.Native.Nat.{ℕ, zero, suc, _+_, _-_, _≤_, _<_}
+use mathlib.Core.Bool.{Bool, true, false, cond, _&&_}
+use Prim.Native.Nat.{ℕ, suc, _+_, _-_, _≤_, _<_}
 use native.Mathlib.Omega.{arith}
 use native.Mathlib.Numerals.{add-one}
-use borrow.Author.Tests.{ltb-true, leb-true, ne-eqb}
+use borrow.Author.Tests.{ltb-true, leb-true}
 use lib.Dec.{leb, ltb, eqb}
-use lib.ListN.{length, getD, take, drop, set, length-append}
-use lib.Seq.{take-suc-set, drop-set-lt, drop-cons, take-at, drop-at, length-take-le}
+use lib.ListN.{length, getD, take, drop, set, replicate, length-append}
+use lib.Seq.{take-suc-set, take-suc, drop-set-lt, drop-drop, drop-cons, take-at, drop-at, length-take-le}
 use Rattle.lists.specs.Laws.{All, all-join, all-map, perm-all, perm-length}
 use Rattle.shares.specs.declared.Costs.{Costs}
-use Rattle.shares.specs.Model.{finish, answers}
+use Rattle.shares.specs.Model.{finish}
 use Rattle.shares.specs.Answers.{answered}
+use Rattle.limits.specs.Tests.{and-both}
 use Rattle.booking.specs.Model.{bookingOf}
 use Rattle.walk.specs.declared.Job.{Job}
-use Rattle.walk.specs.declared.Terms.{Terms}
-use Rattle.walk.specs.declared.Busy.{Busy}
+use Rattle.walk.specs.Order.{by-deadline-perm}
+use Rattle.walk.specs.Chunks.{Sends}
+use Rattle.walk.specs.Walk.{Ready}
+use Rattle.walk.specs.Booked.{walk-best}
+use Rattle.walk.specs.Plan.{plan-length, plan-sends}
 use Rattle.planner.specs.declared.Farm.{Farm}
 use Rattle.planner.specs.declared.Reply.{Reply}
 use Rattle.planner.specs.declared.Question.{Question}
-use Rattle.planner.specs.declared.Answer.{Answer}
 use Rattle.planner.specs.declared.Answer.the-variants as answer
-use Rattle.planner.specs.Model.{greatest, between, emptyJob, noJob, linesOf, waitingOf, termsOf, busyOf, byDeadline, requestOf, step, busyAfter, plan, booksAll, Between}
+use Rattle.planner.specs.Model.{greatest, between, costsWithin, emptyJob, noJob, waitingOf, termsOf, busyOf, byDeadline, plan, booksAll}
 use Rattle.planner.specs.Passes.{passesOf}
-use Rattle.walk.specs.Plan.{plan-length, plan-sends}
-use Rattle.limits.specs.Says.{between-is}
-use Rattle.walk.specs.Order.{by-deadline-perm}
-use Rattle.planner.specs.Asked.{and-left, and-right, passes-figures, passes-jobs}
-use Rattle.walk.specs.Chunks.{Sends}
-use Rattle.walk.specs.Walk.{Ready, best-sends}
-use Rattle.walk.specs.Booked.{BestAll, Fails, walk-is, walk-best}
-use Rattle.walk.specs.Chain.{afters-length}
-use Rattle.planner.specs.Calls.{Said, said, granted, refused, numberOf, Replies, newJob, queueOf, planned, accepts, nextFarm, withPlan, ofNumber, yesOf, offerAsked, offerSaid, offerFarm}
+use Rattle.planner.specs.PassesSteps.{passes-within, passes-jobs}
+use Rattle.planner.specs.Calls.{said, granted, refused, numberOf, Replies, unopened, openedWith, showsWithin, openSaid, openFarm, heldBy, allowanceOf, accountSaid, planned, accepts, nextFarm, withPlan, ofNumber, yesOf, offerAsked, offerSaid, offerFarm}
+
+-- ---- Opening
+
+-- A copy, one number further.
+pub copy-next : (n i : ℕ) (xs ys : List ℕ) → i < length xs → i < length ys → take i ys ≡ take i xs → drop i ys ≡ replicate (n - i) 0 → i < n
+    → (take (i + 1) (set ys i (getD xs i 0)) ≡ take (i + 1) xs) × (drop (i + 1) (set ys i (getD xs i 0)) ≡ replicate (n - (i + 1)) 0)
+copy-next n i xs ys h k p q l =
+    let e : n - i ≡ suc (n - (i + 1)) = omega arith in (
+      rw (add-one i, take-suc-set ys i (getD xs i 0) k, take-suc xs i 0 h, p),
+      rw (drop-set-lt (i + 1) ys i (getD xs i 0) (omega arith), ← drop-drop 1 i ys, q, e),
+    )
+
+module _ (n : ℕ) (c : Costs) (al : List ℕ) (r : Reply) where
+  -- Replies to an opening.
+  Opens : Type 0
+  Opens = Replies r (openSaid n c al) (openFarm n c al)
+
+  not-opened : (q : Question) → r ≡ record { answer = answer.No q; farm = unopened } → openSaid n c al ≡ refused (numberOf q) → openFarm n c al ≡ unopened
+      → Replies r (openSaid n c al) (openFarm n c al)
+  not-opened q e s f = record { says = ap (λ (x : Reply). said (x .answer)) e ∙ sym s; hands = ap (λ (x : Reply). x .farm) e ∙ sym f }
+
+  -- Refused with 1: the nodes.
+  pub no-nodes : (q : Question) → numberOf q ≡ 1 → r ≡ record { answer = answer.No q; farm = unopened } → between 1 n 64 ≡ false → Replies r (openSaid n c al) (openFarm n c al)
+  unfolding openSaid openFarm
+  no-nodes q m e a = not-opened q e (rw (a, m)) (rw a)
+
+  -- Refused with 2: the costs.
+  pub no-costs : (q : Question) → numberOf q ≡ 2 → r ≡ record { answer = answer.No q; farm = unopened } → between 1 n 64 ≡ true → costsWithin c ≡ false
+      → Replies r (openSaid n c al) (openFarm n c al)
+  unfolding openSaid openFarm
+  no-costs q m e a b = not-opened q e (rw (a, b, m)) (rw (a, b))
+
+  -- Refused with 3: the shows.
+  pub no-shows : (q : Question) → numberOf q ≡ 3 → r ≡ record { answer = answer.No q; farm = unopened } → between 1 n 64 ≡ true → costsWithin c ≡ true → showsWithin al ≡ false
+      → Replies r (openSaid n c al) (openFarm n c al)
+  unfolding openSaid openFarm
+  no-shows q m e a b d = not-opened q e (rw (a, b, d, m)) (rw (a, b, d))
+
+  -- Granted.
+  pub opens : r ≡ record { answer = answer.Open n (length al); farm = openedWith n c al } → between 1 n 64 ≡ true → costsWithin c ≡ true → showsWithin al ≡ true
+      → Replies r (openSaid n c al) (openFarm n c al)
+  unfolding openSaid openFarm
+  opens e a b d =
+      record { says = ap (λ (x : Reply). said (x .answer)) e ∙ rw (a, b, d); hands = ap (λ (x : Reply). x .farm) e ∙ rw (a, b, d) }
+
+-- ---- Accounts
+
+-- An account is refused with 11, then with 4, and granted otherwise.
+pub account-unsound : (f : Farm) (s : ℕ) → passesOf f ≡ false → accountSaid f s ≡ refused 11
+unfolding accountSaid
+account-unsound f s e = rw e
+
+pub account-unknown : (f : Farm) (s : ℕ) → passesOf f ≡ true → between 1 s (f .shows) ≡ false → accountSaid f s ≡ refused 4
+unfolding accountSaid
+account-unknown f s e k = rw (e, k)
+
+pub account-told : (f : Farm) (s : ℕ) → passesOf f ≡ true → between 1 s (f .shows) ≡ true
+    → accountSaid f s ≡ granted (s ∷ heldBy f s ∷ (heldBy f s - allowanceOf f s) ∷ [])
+unfolding accountSaid
+account-told f s e k = rw (e, k)
+
+-- ---- Offers
 
 module _ (f : Farm) (s z d : ℕ) where
-  -- ---- The questions in their order
-
   pub asked-farm : passesOf f ≡ false → offerAsked f s z d ≡ 11
   unfolding offerAsked
   asked-farm a = rw a
@@ -64,8 +118,6 @@ module _ (f : Farm) (s z d : ℕ) where
       → (ltb (f .waiting) 128 && ltb (f .used) greatest) ≡ true → offerAsked f s z d ≡ 0
   unfolding offerAsked
   asked-all a b c e g = rw (a, b, c, e, g)
-
-  -- ---- The reply
 
   -- Refused at a question before the walk: the farm as it was.
   pub offer-refused : (r : Reply) (q : Question) → r ≡ record { answer = answer.No q; farm = f } → offerAsked f s z d ≡ numberOf q → eqb (numberOf q) 0 ≡ false
@@ -123,10 +175,10 @@ of-number P n (j ∷ js) a z = go (eqb (j .number) n) (of-number P n js (a .1) z
 
 -- What questions 6 and 7 say.
 pub deadline-is : (t d : ℕ) → (ltb t d && leb d greatest) ≡ true → (t < d) × (d ≤ greatest)
-deadline-is t d e = (ltb-true t d (and-left (ltb t d) (leb d greatest) e), leb-true d greatest (and-right (ltb t d) (leb d greatest) e))
+deadline-is t d e = (ltb-true t d (and-both (ltb t d) (leb d greatest) e .0), leb-true d greatest (and-both (ltb t d) (leb d greatest) e .1))
 
 pub place-is : (w u : ℕ) → (ltb w 128 && ltb u greatest) ≡ true → (w < 128) × (u < greatest)
-place-is w u e = (ltb-true w 128 (and-left (ltb w 128) (ltb u greatest) e), ltb-true u greatest (and-right (ltb w 128) (ltb u greatest) e))
+place-is w u e = (ltb-true w 128 (and-both (ltb w 128) (ltb u greatest) e .0), ltb-true u greatest (and-both (ltb w 128) (ltb u greatest) e .1))
 
 -- a farm and a job that may be walked: past questions 11, 5, 6 and 7
 pub record Offered (f : Farm) (j : Job) : Type 0 where
@@ -143,7 +195,7 @@ pub record PlanWith (f : Farm) (j : Job) (ok : Bool) (out : List Job) : Type 0 w
 -- On a farm that passes, the walk has costs and nodes that the shares answer for, and jobs of at least a unit with deadlines in the range.
 pub walk-ready : (f : Farm) (j : Job) → Offered f j → Ready (termsOf f) (byDeadline (waitingOf f ++ j ∷ []))
 walk-ready f j o =
-    let g = passes-figures f (o .passes) in
+    let g = passes-within f (o .passes) in
     record {
       answered = answered (f .costs) (f .nodes) (g .costs .send .0) (g .nodes .1);
       jobs = perm-all (λ (x : Job). (1 ≤ x .size) × (x .deadline ≤ greatest)) (by-deadline-perm (waitingOf f ++ j ∷ []))
@@ -184,67 +236,10 @@ module _ (f : Farm) (j : Job) (o : Offered f j) (sized : length (f .free) ≡ 64
   pub accepting : f .used < greatest → Accepting f out
   accepting u =
       let r = walk-ready f j o in
-      let g = passes-figures f (o .passes) in
+      let g = passes-within f (o .passes) in
       let best = walk-best (termsOf f) (busyOf f) (byDeadline (waitingOf f ++ j ∷ [])) r (omega (arith, g .nodes .1)) (sym (p .books) ∙ yes′) in
       record {
         waiting = o .waiting;
         used = u;
         sends = rw plan-jobs (plan-sends (termsOf f) (busyOf f) (byDeadline (waitingOf f ++ j ∷ [])) (g .nodes .1) sized (all-map (λ x a. a .1) (byDeadline (waitingOf f ++ j ∷ [])) (r .jobs)) best);
       }
-
--- ---- Demand 2 on an offer
-
--- An offer that does not pass questions 11, 4, 5, 6 and 7 is refused with the number of the first answered no, and the farm is as it was.
-pub offer-stopped : (f : Farm) (s z d n : ℕ) → offerAsked f s z d ≡ suc n → (offerSaid f s z d ≡ refused (suc n)) × (offerFarm f s z d ≡ f)
-unfolding offerSaid offerFarm
-offer-stopped f s z d n e = (rw (e, ne-eqb (suc n) 0 (λ h. omega arith)), rw (e, ne-eqb (suc n) 0 (λ h. omega arith)))
-
--- what questions 11, 4, 5, 6 and 7 ask, all answered yes
-pub record Granted (f : Farm) (s z d : ℕ) : Type 0 where
-  pub passes : passesOf f ≡ true
-  pub show : Between 1 s (f .shows)
-  pub size : Between 1 z 1_000_000
-  pub clock : f .clock < d
-  pub deadline : d ≤ greatest
-  pub waiting : f .waiting < 128
-  pub used : f .used < greatest
-
-asked-yes : (a b c e g : Bool) → _≡_ {A = ℕ} (cond a (cond b (cond c (cond e (cond g 0 7) 6) 5) 4) 11) 0 → (a ≡ true) × (b ≡ true) × (c ≡ true) × (e ≡ true) × (g ≡ true)
-asked-yes true true true true true h = (refl, refl, refl, refl, refl)
-asked-yes true true true true false h = absurd (omega arith)
-asked-yes true true true false g h = absurd (omega arith)
-asked-yes true true false e g h = absurd (omega arith)
-asked-yes true false c e g h = absurd (omega arith)
-asked-yes false b c e g h = absurd (omega arith)
-
--- An offer that is asked all its questions up to the walk has each answered yes.
-pub asked-granted : (f : Farm) (s z d : ℕ) → offerAsked f s z d ≡ 0 → Granted f s z d
-unfolding offerAsked
-asked-granted f s z d h =
-    let q = asked-yes (passesOf f) (between 1 s (f .shows)) (between 1 z 1_000_000) (ltb (f .clock) d && leb d greatest) (ltb (f .waiting) 128 && ltb (f .used) greatest) h in
-    let t = deadline-is (f .clock) d (q .3) in
-    let p = place-is (f .waiting) (f .used) (q .4) in
-    record {
-      passes = q .0;
-      show = between-is 1 s (f .shows) (q .1);
-      size = between-is 1 z 1_000_000 (q .2);
-      clock = t .0;
-      deadline = t .1;
-      waiting = p .0;
-      used = p .1;
-    }
-
--- What such an offer has the walk start from.
-granted-offered : (f : Farm) (s z d : ℕ) → Granted f s z d → Offered f (newJob f s z d)
-granted-offered f s z d g = record { passes = g .passes; size = g .size .0; deadline = g .deadline; waiting = g .waiting }
-
--- **An offer.** Past those questions it is accepted exactly when the walk books every waiting job and the new one, each with the best of all choices
--- behind those before it, and then the next farm holds exactly that plan; otherwise some job has no choice at all behind the best of those before it,
--- and the offer is refused with 8, the farm as it was.
-pub offer-is : (f : Farm) (s z d : ℕ) → f .nodes ≤ length (f .free) → offerAsked f s z d ≡ 0
-    → ((accepts f s z d ≡ true) × BestAll (termsOf f) (busyOf f) (queueOf f s z d) × (offerSaid f s z d .number ≡ 0) × (offerFarm f s z d ≡ withPlan f (planned f s z d)))
-    ⊎ ((accepts f s z d ≡ false) × Fails (termsOf f) (busyOf f) (queueOf f s z d) × (offerSaid f s z d ≡ refused 8) × (offerFarm f s z d ≡ f))
-unfolding offerSaid offerFarm
-offer-is f s z d h e =
-    ⊎-elim (λ x. inl (x .0, x .1, rw (e, x .0), rw (e, x .0))) (λ x. inr (x .0, x .1, rw (e, x .0), rw (e, x .0)))
-    (walk-is (termsOf f) (busyOf f) (queueOf f s z d) (walk-ready f (newJob f s z d) (granted-offered f s z d (asked-granted f s z d e))) h)

@@ -14,12 +14,12 @@ use lib.Dec.{leb, ltb, eqb}
 use lib.ListN.{length, drop}
 use Rattle.shares.specs.declared.Costs.{Costs}
 use Rattle.walk.specs.declared.Chunk.{Chunk}
 use Rattle.planner.specs.declared.Farm.{Farm}
 use Rattle.planner.specs.Model.{greatest, between, costsWithin}
 use Rattle.planner.specs.Passes.{passesOf}
 use Rattle.planner.specs.Calls.{Said, granted, refused, showsWithin, openSaid, openFarm, unopened, openedWith, accountSaid, heldBy, allowanceOf, planned, accepts, withPlan, ofNumber, yesOf, offerAsked, offerSaid, offerFarm}
 use Rattle.planner.specs.Clock.{issued, movedFarm, moveAsked, moveSaid, moveFarm, moveMemory, shown, shownAsked, shownSaid, shownMemory}
-use Rattle.planner.specs.MoveKept.{move-is, move-stopped, shown-is, shown-stopped}
+use Rattle.demands.specs.MoveAnswers.{move-is, move-stopped, shown-is, shown-stopped}
 
 -- ---- Refused exactly where the papers name a refusal
 

@@ -1,11 +1,11 @@
 -- Demand 3, its sentences beside the parts of the claim (`Demand3` below; `demand3` at the end is the theorem):
 --   "For every list of offers and clock moves, refused ones included, after a granted opening, each call given the farm
---    that the one before it handed back,"                                             demand3, over `run` (Lists.antt)
+--    that the one before it handed back,"                                             demand3, over `run` (CallLists.antt)
 --   "no accepted job is late."                                                        each, due
 --   "Its chunks are issued, each once, all by the first granted clock move after its acceptance to reach the start it
---    has at that move,"                                                               stories (`Lifecycle` in Lists.antt)
+--    has at that move,"                                                               stories (`Lifecycle` in CallLists.antt)
 --   "and no others are ever issued."                                                  only
---   "They add up to its size, end by its deadline,"                                   each (`Fulfils` in Lists.antt)
+--   "They add up to its size, end by its deadline,"                                   each (`Fulfils` in CallLists.antt)
 --   "and have been issued once the clock has reached that deadline."                  due
 --   "No later call alters an issued chunk."                                           unaltered
 --   "No two chunks, issued or booked, are on one node, and no two of their sends on the link, in the same tick."   apart
@@ -29,25 +29,26 @@ use Rattle.shares.specs.Lists.{Positive}
 use Rattle.booking.specs.Best.{freeAt, units}
 use Rattle.walk.specs.declared.Job.{Job}
 use Rattle.walk.specs.declared.Busy.{Busy}
 use Rattle.planner.specs.declared.Farm.{Farm}
 use Rattle.planner.specs.Model.{between, costsWithin, Span, linesOf, spansOf, spansOfAll, Sized, after, afters, byDeadline, byStart, plan, waitingOf, busyOf, termsOf, Between, Apart}
 use Rattle.planner.specs.Passes.{passesOf}
 use Rattle.walk.specs.Chain.{Fits, Chain, chain-append, Proper, free-same, free-other, after-length, chain-apart}
 use Rattle.walk.specs.Order.{by-start-perm, by-deadline-perm}
 use Rattle.walk.specs.Booked.{BestAll, walk-best}
-use Rattle.planner.specs.Offer.{walk-ready}
+use Rattle.planner.specs.CallsSteps.{walk-ready}
 use Rattle.soundness.specs.Sweep.{spans-all, spans-perm, apart-sym}
-use Rattle.planner.specs.Sound.{passes-iff}
+use Rattle.demands.specs.QuestionEleven.{passes-iff}
 use Rattle.planner.specs.Calls.{Said, granted, refused, showsWithin, openFarm, openSaid, heldBy, newJob, queueOf, planned, withPlan}
-use Rattle.planner.specs.Kept.{waiting-planned}
+use Rattle.demands.specs.OfferPasses.{waiting-planned}
 use Rattle.planner.specs.Clock.{begun, issued, moveAsked}
-use Rattle.planner.specs.Starts.{StartsDiffer, starts-differ, next-few, next-granted}
-use Rattle.planner.specs.Lists.{Call, offer, move, handed, isGranted, linesBy, Accepted, jobsBy, History, opening, note, run, heldOf, upTo, linesFor, latestFinish, latestSent, acceptedOf, Fulfils, FromFirst, Waits, IssuesNone, Lifecycle}
-use Rattle.planner.specs.Seam.{chunkOf, numberOfJob}
-use Rattle.planner.specs.MoveKept.{Waiting, waiting-jobs, booked-chain}
-use Rattle.planner.specs.Outcome.{taken, Takes, Moves, outcome}
-use Rattle.planner.specs.Invariant.{idle, Whole, Inv, plan-accepted, whole-proper, open-inv, note-inv, run-inv}
-use Rattle.planner.specs.Stories.{spans-named, none-of-jobs, lines-none, lines-own, whole-fulfils, spans-first, waits-as, NoLongerWaits, issues-no-more, begun-no-longer-waits, front-differ, none-before, Among, story}
+use Rattle.demands.specs.Starts.{StartsDiffer, starts-differ, next-few, next-granted}
+use Rattle.demands.specs.CallLists.{Call, offer, move, handed, isGranted, linesBy, Accepted, jobsBy, History, opening, note, run, heldOf, upTo, linesFor, latestFinish, latestSent, acceptedOf, Fulfils, FromFirst, Waits, IssuesNone, Lifecycle}
+use Rattle.demands.specs.BegunJobs.{chunkOf}
+use Rattle.demands.specs.JobNumbers.{numberOfJob}
+use Rattle.demands.specs.MovePasses.{Waiting, waiting-jobs, booked-chain}
+use Rattle.demands.specs.Outcome.{taken, Takes, Moves, outcome}
+use Rattle.demands.specs.Invariant.{idle, Whole, Inv, plan-accepted, whole-proper, open-inv, note-inv, run-inv}
+use Rattle.demands.specs.Lifecycles.{spans-named, none-of-jobs, lines-none, lines-own, whole-fulfils, spans-first, waits-as, NoLongerWaits, issues-no-more, begun-no-longer-waits, front-differ, none-before, Among, lifecycle}
 
 -- ---- The claim
 
@@ -332,7 +333,7 @@ demand3 n c al e cs =
       stories = λ before x after h.
           let v = run (opening f) before in
           let j : Inv (run (opening f) before) = run-inv (opening f) before o in
-          all-map (λ y m. story y (note v x) after (note-inv v x j) m) (jobsBy (v .farm) x) (new-among (v .farm) x (j .sized));
+          all-map (λ y m. lifecycle y (note v x) after (note-inv v x j) m) (jobsBy (v .farm) x) (new-among (v .farm) x (j .sized));
       only = only-jobs w i;
       unaltered = λ before x after h. issued-issues-none (run (opening f) before) x after (run-inv (opening f) before o);
       apart = all-apart w i;

@@ -1,122 +1,39 @@
--- A granted clock move: what its questions say, and the farm that it hands back, which passes question 11 where its figures stay within their limits.
+-- The farm that a granted clock move hands back: it passes question 11 where its figures stay within their limits.
 use mathlib.Core.Path.{_≡_, refl, ap, sym, subst, _∙_}
 use mathlib.Core.List.{List, [], _∷_, _++_, map, Permᴰ·map}
-use mathlib.Core.Bool.{Bool, true, false, cond, _&&_}
-use Prim.Native.Nat.{ℕ, suc, _*_, _≤_}
+use mathlib.Core.Bool.{true, _&&_}
+use Prim.Native.Nat.{ℕ, _*_, _≤_}
 use native.Mathlib.Omega.{arith}
-use borrow.Author.Tests.{leb-true, leb-false, not-true, eq-eqb, ne-eqb}
-use lib.Dec.{leb}
+use borrow.Author.Tests.{leb-false, not-true}
 use lib.ListN.{length, take, drop, length-append, length-drop, take-append-drop}
 use lib.Seq.{take-at, length-take-le}
 use Rattle.lists.specs.Laws.{All, Pairs, Differ, all-map, all-both, all-append, all-join, all-take, perm-all, perm-pairs, map-join, pairs-parts}
-use Rattle.shares.specs.declared.Costs.{Costs}
-use Rattle.shares.specs.Model.{sendEnd}
 use Rattle.booking.specs.Best.{chosen, units}
 use Rattle.walk.specs.declared.Job.{Job}
 use Rattle.walk.specs.declared.Chunk.{Chunk}
 use Rattle.planner.specs.declared.Farm.{Farm}
-use Rattle.planner.specs.Model.{greatest, between, chunksFrom, linesOf, spansOf, spansOfAll, JobSized, Sized, afters, fitAll, byStart, waitingOf, busyOf, Between, Apart}
-use Rattle.planner.specs.Passes.{figuresWithin, jobsPass, allDiffer, passesOf, JobWithin, JobSound, Passes}
-use Rattle.walk.specs.Chain.{Fits, fit-all-chain, Chain, chain-append, Proper, afters-length, chain-follows, chain-apart, job-proper}
+use Rattle.planner.specs.Model.{greatest, linesOf, spansOf, spansOfAll, JobSized, Sized, afters, fitAll, byStart, waitingOf, busyOf, Apart}
+use Rattle.soundness.specs.Model.{jobsPass, allDiffer}
+use Rattle.planner.specs.Passes.{figuresOf, numbersOf, waitingPass, passesOf, JobWithin, JobSound, Passes}
+use Rattle.planner.specs.PassesSteps.{farmWithin, usable}
+use Rattle.walk.specs.Chain.{Fits, fit-all-chain, Chain, chain-append, Proper, afters-length, chain-follows, chain-apart}
 use Rattle.walk.specs.Order.{by-start-perm}
-use Rattle.limits.specs.Says.{between-is}
 use Rattle.soundness.specs.Sweep.{spans-each, spans-all, spans-perm, apart-sym}
-use Rattle.planner.specs.Sound.{Paired, job-paired, fits-behind, passes-iff}
+use Rattle.soundness.specs.Sound.{Paired, job-paired, fits-behind, job-spans}
+use Rattle.demands.specs.QuestionEleven.{passes-iff}
 use Rattle.timetable.specs.Lines.{lines-length}
-use Rattle.planner.specs.Asked.{and-right}
-use Rattle.planner.specs.Calls.{granted, refused}
-use Rattle.planner.specs.Clock.{startsBy, startsAfter, begun, left, linesOfAll, issued, movedFarm, moveAsked, moveSaid, moveFarm, moveMemory, shown, shownAsked, shownSaid, shownMemory}
-use Rattle.planner.specs.Seam.{keep-all, keep-length, later, begun-later, later-left, begun-left, spans-append, spans-chunks, raised-length, numberOfJob}
-
--- what questions 11, 9 and 10 ask, all answered yes
-pub record MoveGranted (f : Farm) (t n : ℕ) : Type 0 where
-  pub passes : passesOf f ≡ true
-  pub time : Between (f .clock) t greatest
-  pub lines : length (issued f t) ≤ n
-
--- ---- The questions
-
-asked-yes : (a b c : Bool) → _≡_ {A = ℕ} (cond a (cond b (cond c 0 10) 9) 11) 0 → (a ≡ true) × (b ≡ true) × (c ≡ true)
-asked-yes true true true h = (refl, refl, refl)
-asked-yes true true false h = absurd (omega arith)
-asked-yes true false c h = absurd (omega arith)
-asked-yes false b c h = absurd (omega arith)
-
--- A clock move that is asked all its questions has each answered yes.
-pub move-granted : (f : Farm) (t n : ℕ) → moveAsked f t n ≡ 0 → MoveGranted f t n
-unfolding moveAsked
-move-granted f t n h =
-    let q = asked-yes (passesOf f) (between (f .clock) t greatest) (leb (length (issued f t)) n) h in
-    record { passes = q .0; time = between-is (f .clock) t greatest (q .1); lines = leb-true (length (issued f t)) n (q .2) }
-
-module _ (f : Farm) (t n : ℕ) where
-  -- The questions of a clock move in their order. Refused with 11: the farm.
-  pub move-unsound : passesOf f ≡ false → moveAsked f t n ≡ 11
-  unfolding moveAsked
-  move-unsound a = rw a
-
-  -- Refused with 9: the time.
-  pub move-untimely : passesOf f ≡ true → between (f .clock) t greatest ≡ false → moveAsked f t n ≡ 9
-  unfolding moveAsked
-  move-untimely a b = rw (a, b)
-
-  -- Refused with 10: the lent timetable.
-  pub move-unheld : passesOf f ≡ true → between (f .clock) t greatest ≡ true → leb (length (issued f t)) n ≡ false → moveAsked f t n ≡ 10
-  unfolding moveAsked
-  move-unheld a b c = rw (a, b, c)
-
-  -- All answered yes.
-  pub move-asked : passesOf f ≡ true → between (f .clock) t greatest ≡ true → leb (length (issued f t)) n ≡ true → moveAsked f t n ≡ 0
-  unfolding moveAsked
-  move-asked a b c = rw (a, b, c)
-
-module _ (f : Farm) (n : ℕ) where
-  -- The questions of showing in their order. Refused with 11: the farm.
-  pub shown-unsound : passesOf f ≡ false → shownAsked f n ≡ 11
-  unfolding shownAsked
-  shown-unsound a = rw a
-
-  -- Refused with 10: the lent timetable.
-  pub shown-unheld : passesOf f ≡ true → leb (length (shown f)) n ≡ false → shownAsked f n ≡ 10
-  unfolding shownAsked
-  shown-unheld a b = rw (a, b)
-
-  -- All answered yes.
-  pub shown-asked : passesOf f ≡ true → leb (length (shown f)) n ≡ true → shownAsked f n ≡ 0
-  unfolding shownAsked
-  shown-asked a b = rw (a, b)
-
--- A clock move that is asked all its questions is granted: it answers the time and the number of lines, hands the moved farm back, and the lent memory
--- holds the lines at its front and its former contents everywhere else.
-pub move-is : (f : Farm) (t : ℕ) (m : List Chunk) → moveAsked f t (length m) ≡ 0
-    → (moveSaid f t (length m) ≡ granted (t ∷ length (issued f t) ∷ [])) × (moveFarm f t (length m) ≡ movedFarm f t) × (moveMemory f t m ≡ issued f t ++ drop (length (issued f t)) m)
-unfolding moveSaid moveFarm moveMemory
-move-is f t m e = let q = eq-eqb (moveAsked f t (length m)) 0 e in (rw q, rw q, rw q)
-
--- Any other is refused with the number of the first question answered no, and the farm and the lent memory are as they were.
-pub move-stopped : (f : Farm) (t : ℕ) (m : List Chunk) (n : ℕ) → moveAsked f t (length m) ≡ suc n
-    → (moveSaid f t (length m) ≡ refused (suc n)) × (moveFarm f t (length m) ≡ f) × (moveMemory f t m ≡ m)
-unfolding moveSaid moveFarm moveMemory
-move-stopped f t m n e = let q = ne-eqb (moveAsked f t (length m)) 0 (λ h. omega arith) in (rw (q, e), rw q, rw q)
-
--- Showing is granted where its questions are answered yes.
-pub shown-is : (f : Farm) (m : List Chunk) → shownAsked f (length m) ≡ 0
-    → (shownSaid f (length m) ≡ granted (length (shown f) ∷ [])) × (shownMemory f m ≡ shown f ++ drop (length (shown f)) m)
-unfolding shownSaid shownMemory
-shown-is f m e = let q = eq-eqb (shownAsked f (length m)) 0 e in (rw q, rw q)
-
--- Otherwise it is refused with the number of the first answered no, and the lent memory is as it was.
-pub shown-stopped : (f : Farm) (m : List Chunk) (n : ℕ) → shownAsked f (length m) ≡ suc n → (shownSaid f (length m) ≡ refused (suc n)) × (shownMemory f m ≡ m)
-unfolding shownSaid shownMemory
-shown-stopped f m n e = let q = ne-eqb (shownAsked f (length m)) 0 (λ h. omega arith) in (rw (q, e), rw q)
-
--- ---- The moved farm
+use Rattle.limits.specs.Tests.{and-both}
+use Rattle.planner.specs.Clock.{startsBy, startsAfter, begun, left, linesOfAll, issued, movedFarm}
+use Rattle.timetable.specs.Keep.{keep-all, keep-length}
+use Rattle.timetable.specs.Raise.{raised-length}
+use Rattle.demands.specs.BegunJobs.{later, begun-later, later-left, begun-left, spans-append, spans-chunks}
+use Rattle.demands.specs.JobNumbers.{numberOfJob}
 
 -- what is known of a waiting job of a farm that passes
 pub record Waiting (f : Farm) (j : Job) : Type 0 where
   pub sized : JobSized j
-  pub within : JobWithin f j
-  pub sound : JobSound f j
+  pub within : JobWithin (figuresOf f) j
+  pub sound : JobSound (figuresOf f) (busyOf f) j
   pub paired : Paired j
   pub proper : All (Proper 64) (spansOf (f .costs) j)
 
@@ -125,28 +42,28 @@ module _ (f : Farm) (sized : Sized f) (e : passesOf f ≡ true) where
   pub waiting-jobs : All (Waiting f) (waitingOf f)
   waiting-jobs =
       let p = passes-iff f sized .0 e in
-      let w = p .within in
-      let both : All (λ (j : Job). JobWithin f j × JobSound f j) (waitingOf f) = all-both (λ j a b. (a, b)) (waitingOf f) (w .jobs) (p .sound .jobs) in
+      let both : All (λ (j : Job). JobWithin (figuresOf f) j × JobSound (figuresOf f) (busyOf f) j) (waitingOf f) = all-both (λ j a b. (a, b)) (waitingOf f) (p .jobs) (p .sound .jobs) in
       all-both (λ j s h. record {
         sized = s;
         within = h .0;
         sound = h .1;
-        paired = job-paired f j s (h .0);
-        proper = job-proper (f .costs) 64 j (w .costs .send .0) (all-map (λ k b. (b .0, omega (arith, b .1, w .nodes .1))) (chosen (j .booking)) (h .0 .nodes)) (h .1 .each);
+        paired = job-paired (figuresOf f) j s (h .0);
+        proper = job-spans (figuresOf f) j (usable f (p .within)) (h .0) (h .1 .each);
       }) (waitingOf f) (all-take JobSized (f .waiting) (f .jobs) (sized .each)) both
 
   -- The booked spans in order of start are a chain behind the farm's free times.
   pub booked-chain : Chain (busyOf f) (spansOfAll (f .costs) (byStart (waitingOf f)))
-  unfolding passesOf
+  unfolding passesOf waitingPass
   booked-chain = fit-all-chain (busyOf f) (spansOfAll (f .costs) (byStart (waitingOf f))) .0
-      (and-right (f .opened && figuresWithin f && jobsPass f (waitingOf f) && allDiffer (map (λ (j : Job). j .number) (waitingOf f))) (fitAll (busyOf f) (spansOfAll (f .costs) (byStart (waitingOf f)))) e)
+      (and-both (jobsPass (figuresOf f) (waitingOf f) && allDiffer (numbersOf (waitingOf f))) (fitAll (busyOf f) (spansOfAll (f .costs) (byStart (waitingOf f))))
+      (and-both (farmWithin f) (waitingPass (figuresOf f) (busyOf f) (waitingOf f)) e .1) .1)
 
   -- The waiting jobs have different numbers.
   pub waiting-differ : Differ (map numberOfJob (waitingOf f))
   waiting-differ = passes-iff f sized .0 e .sound .differ
 
   module _ (t : ℕ) where
-    -- A move leaves the chain as it is and moves the seam.
+    -- A move leaves the chain as it is, and what it begins is a front of it.
     pub moved-chain : Chain (busyOf f) (spansOfAll (f .costs) (begun f t)) × Chain (afters (busyOf f) (issued f t)) (spansOfAll (f .costs) (later f t))
     moved-chain =
         let c = f .costs in
@@ -189,13 +106,13 @@ module _ (f : Farm) (sized : Sized f) (e : passesOf f ≡ true) where
     later-proper : All (Proper 64) (spansOfAll (f .costs) (later f t))
     later-proper = spans-all (Proper 64) (f .costs) (later f t) (all-map (λ j h. h .0 .proper) (later f t) later-jobs)
 
-    later-sound : All (JobSound (movedFarm f t)) (later f t)
+    later-sound : All (JobSound (figuresOf (movedFarm f t)) (busyOf (movedFarm f t))) (later f t)
     later-sound =
         let b = afters (busyOf f) (issued f t) in
         let fits = spans-each (Fits b) (f .costs) (later f t)
         (chain-follows b (spansOfAll (f .costs) (later f t)) (moved-sized .free) later-proper .0 (moved-chain .1) .0) in
         all-both (λ j h k.
-        let q = fits-behind (movedFarm f t) (f .costs) j (h .0 .paired) k in
+        let q = fits-behind (busyOf (movedFarm f t)) (f .costs) j (h .0 .paired) k in
         record {
           clock = omega (arith, leb-false (j .booking .start) t (not-true (startsBy t j) (h .1)));
           link = q .0;
@@ -226,11 +143,11 @@ module _ (f : Farm) (sized : Sized f) (e : passesOf f ≡ true) where
             free = free;
             used = w .used;
             waiting = omega (arith, left-few, w .waiting);
-            jobs = subst (All (JobWithin farm)) (sym moved-waiting) (perm-all (JobWithin farm) d
-                (all-map (λ j h. let x = h .0 .within in record { number = x .number; show = x .show; size = x .size; deadline = x .deadline; start = x .start; count = x .count; nodes = x .nodes }) (later f t) later-jobs));
           };
+          jobs = subst (All (JobWithin (figuresOf farm))) (sym moved-waiting) (perm-all (JobWithin (figuresOf farm)) d
+              (all-map (λ j h. let x = h .0 .within in record { number = x .number; show = x .show; size = x .size; deadline = x .deadline; start = x .start; count = x .count; nodes = x .nodes }) (later f t) later-jobs));
           sound = record {
-            jobs = subst (All (JobSound farm)) (sym moved-waiting) (perm-all (JobSound farm) d later-sound);
+            jobs = subst (All (JobSound (figuresOf farm) (busyOf farm))) (sym moved-waiting) (perm-all (JobSound (figuresOf farm) (busyOf farm)) d later-sound);
             apart = subst (λ (l : List Job). Pairs Apart (spansOfAll (f .costs) l)) (sym moved-waiting)
                 (perm-pairs Apart apart-sym (spans-perm (f .costs) d) (chain-apart (afters (busyOf f) (issued f t)) (spansOfAll (f .costs) (later f t)) (moved-sized .free) later-proper (moved-chain .1)));
             differ = subst (λ (l : List Job). Differ (map numberOfJob l)) (sym moved-waiting)

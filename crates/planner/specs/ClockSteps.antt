@@ -1,14 +1,14 @@
--- What the functions of src/clock.rt promise each other.
+-- A clock move and showing, question by question: what the functions of src/clock.rt need and promise each other.
 use mathlib.Core.Path.{_≡_, refl, ap, sym, subst, _∙_}
-use mathlib.Core.List.{List, [], _∷_, _++_, List·Permᴰ}
+use mathlib.Core.List.{List, [], _∷_, _++_}
 use mathlib.Core.Bool.{Bool, true, false, cond, not}
-use Prim.Native.Nat.{ℕ, zero, suc, _-_, _≤_, _<_}
+use Prim.Native.Nat.{ℕ, suc, _-_, _≤_, _<_}
 use native.Mathlib.Omega.{arith}
 use borrow.Author.Tests.{leb-true, leb-false, le-leb, lt-leb, eq-eqb, ne-eqb}
 use lib.Dec.{leb, eqb}
 use lib.ListN.{length, getD, take, drop, take-append-drop}
 use lib.Seq.{take-take, take-at, length-take-le, getD-take}
-use Rattle.lists.specs.Laws.{All, Pairs, all-map, all-nth, all-take, perm-all, perm-length}
+use Rattle.lists.specs.Laws.{All, Pairs, all-map, all-both, all-nth, all-take, perm-all, perm-length}
 use Rattle.shares.specs.declared.Costs.{Costs}
 use Rattle.booking.specs.Best.{chosen}
 use Rattle.walk.specs.declared.Job.{Job}
@@ -18,17 +18,76 @@ use Rattle.walk.specs.Order.{by-start-perm, by-start-grows}
 use Rattle.walk.specs.Chunks.{Sends}
 use Rattle.timetable.specs.Begin.{starting, chunks, Few, RaisesAll}
 use Rattle.timetable.specs.Lines.{all-lines}
+use Rattle.timetable.specs.Keep.{keep-all, keep-none, keep-every}
+use Rattle.limits.specs.Says.{between-is}
+use Rattle.soundness.specs.Sound.{JobKept}
 use Rattle.planner.specs.declared.Farm.{Farm}
 use Rattle.planner.specs.declared.Question.{Question}
 use Rattle.planner.specs.declared.Answer.the-variants as answer
 use Rattle.planner.specs.declared.clock.Issue.{Issue}
-use Rattle.planner.specs.Model.{greatest, between, spansOfAll, afters, byStart, waitingOf, busyOf, Sized}
-use Rattle.planner.specs.Passes.{passesOf}
-use Rattle.planner.specs.Sound.{passes-iff}
+use Rattle.planner.specs.Model.{greatest, between, Between, spansOfAll, afters, byStart, waitingOf, busyOf, JobSized, Sized}
+use Rattle.planner.specs.Passes.{passesOf, figuresOf, JobWithin}
+use Rattle.planner.specs.PassesSteps.{passes-within, passes-jobs}
 use Rattle.planner.specs.Calls.{numberOf, granted, Replies}
 use Rattle.planner.specs.Clock.{keep, startsBy, startsAfter, linesOfAll, raised, begun, left, issued, movedFarm, moveAsked, moveSaid, moveFarm, moveMemory, moveLines, shown, shownAsked, shownSaid, shownMemory, shownLines}
-use Rattle.planner.specs.Seam.{keep-all, keep-none, keep-every}
-use Rattle.planner.specs.MoveKept.{move-granted, move-asked, Waiting, waiting-jobs}
+
+-- what questions 11, 9 and 10 ask, all answered yes
+pub record MoveGranted (f : Farm) (t n : ℕ) : Type 0 where
+  pub passes : passesOf f ≡ true
+  pub time : Between (f .clock) t greatest
+  pub lines : length (issued f t) ≤ n
+
+-- ---- The questions
+
+asked-yes : (a b c : Bool) → _≡_ {A = ℕ} (cond a (cond b (cond c 0 10) 9) 11) 0 → (a ≡ true) × (b ≡ true) × (c ≡ true)
+asked-yes true true true h = (refl, refl, refl)
+asked-yes true true false h = absurd (omega arith)
+asked-yes true false c h = absurd (omega arith)
+asked-yes false b c h = absurd (omega arith)
+
+-- A clock move that is asked all its questions has each answered yes.
+pub move-granted : (f : Farm) (t n : ℕ) → moveAsked f t n ≡ 0 → MoveGranted f t n
+unfolding moveAsked
+move-granted f t n h =
+    let q = asked-yes (passesOf f) (between (f .clock) t greatest) (leb (length (issued f t)) n) h in
+    record { passes = q .0; time = between-is (f .clock) t greatest (q .1); lines = leb-true (length (issued f t)) n (q .2) }
+
+module _ (f : Farm) (t n : ℕ) where
+  -- The questions of a clock move in their order. Refused with 11: the farm.
+  pub move-unsound : passesOf f ≡ false → moveAsked f t n ≡ 11
+  unfolding moveAsked
+  move-unsound a = rw a
+
+  -- Refused with 9: the time.
+  pub move-untimely : passesOf f ≡ true → between (f .clock) t greatest ≡ false → moveAsked f t n ≡ 9
+  unfolding moveAsked
+  move-untimely a b = rw (a, b)
+
+  -- Refused with 10: the lent timetable.
+  pub move-unheld : passesOf f ≡ true → between (f .clock) t greatest ≡ true → leb (length (issued f t)) n ≡ false → moveAsked f t n ≡ 10
+  unfolding moveAsked
+  move-unheld a b c = rw (a, b, c)
+
+  -- All answered yes.
+  pub move-asked : passesOf f ≡ true → between (f .clock) t greatest ≡ true → leb (length (issued f t)) n ≡ true → moveAsked f t n ≡ 0
+  unfolding moveAsked
+  move-asked a b c = rw (a, b, c)
+
+module _ (f : Farm) (n : ℕ) where
+  -- The questions of showing in their order. Refused with 11: the farm.
+  pub shown-unsound : passesOf f ≡ false → shownAsked f n ≡ 11
+  unfolding shownAsked
+  shown-unsound a = rw a
+
+  -- Refused with 10: the lent timetable.
+  pub shown-unheld : passesOf f ≡ true → leb (length (shown f)) n ≡ false → shownAsked f n ≡ 10
+  unfolding shownAsked
+  shown-unheld a b = rw (a, b)
+
+  -- All answered yes.
+  pub shown-asked : passesOf f ≡ true → leb (length (shown f)) n ≡ true → shownAsked f n ≡ 0
+  unfolding shownAsked
+  shown-asked a b = rw (a, b)
 
 -- ---- What begins stands at the front
 
@@ -60,13 +119,13 @@ module _ (f : Farm) (ordered : List Job) (sized : Sized f) (w : f .waiting ≤ 1
 -- ---- Jobs that wait
 
 -- The chunks of a waiting job can be worked out.
-waiting-sends : (f : Farm) (j : Job) → f .nodes ≤ 64 → Waiting f j → Sends (f .costs) j
-waiting-sends f j n h = record {
-  few = h .within .count .1;
-  nodes = length-take-le (j .booking .count) (j .booking .nodes) (omega (arith, h .sized .nodes, h .within .count .1));
-  shares = length-take-le (j .booking .count) (j .booking .shares) (omega (arith, h .sized .shares, h .within .count .1));
-  known = all-map (λ k b. (b .0, omega (arith, b .1))) (chosen (j .booking)) (h .within .nodes);
-  ends = omega (arith, h .sound .ends, h .within .deadline);
+waiting-sends : (f : Farm) (j : Job) → f .nodes ≤ 64 → JobSized j → JobWithin (figuresOf f) j → JobKept (figuresOf f) j → Sends (f .costs) j
+waiting-sends f j n z w k = record {
+  few = w .count .1;
+  nodes = length-take-le (j .booking .count) (j .booking .nodes) (omega (arith, z .nodes, w .count .1));
+  shares = length-take-le (j .booking .count) (j .booking .shares) (omega (arith, z .shares, w .count .1));
+  known = all-map (λ k b. (b .0, omega (arith, b .1))) (chosen (j .booking)) (w .nodes);
+  ends = omega (arith, k .ends, w .deadline);
 }
 
 -- what the jobs of a list bring where they begin: chunks that can be worked out, shows with a cell, cells with room
@@ -77,21 +136,21 @@ pub record CanBegin (f : Farm) (j : Job) : Type 0 where
 
 module _ (f : Farm) (sized : Sized f) (e : passesOf f ≡ true) where
   pub waiting-few : f .waiting ≤ 128
-  waiting-few = passes-iff f sized .0 e .within .waiting
+  waiting-few = passes-within f e .waiting
 
   waiting-can-begin : All (CanBegin f) (waitingOf f)
   waiting-can-begin =
-      let w = passes-iff f sized .0 e .within in
-      let room : (j : Job) → Waiting f j → getD (f .held) (j .show - 1) 0 ≤ 64_000_000_000_000 =
+      let w = passes-within f e in
+      let room : (j : Job) → JobWithin (figuresOf f) j → getD (f .held) (j .show - 1) 0 ≤ 64_000_000_000_000 =
       λ j h.
-      let i : j .show - 1 < f .shows = omega (arith, h .within .show) in
+      let i : j .show - 1 < f .shows = omega (arith, h .show) in
       subst (λ (x : ℕ). x ≤ 64_000_000_000_000) (getD-take (f .shows) (f .held) (j .show - 1) 0 i)
       (all-nth 0 (λ (x : ℕ). x ≤ 64_000_000_000_000) (take (f .shows) (f .held)) (j .show - 1) (w .held) (omega (arith, w .shows .1, length-take-le (f .shows) (f .held) (omega (arith, w .shows .1, sized .held))))) in
-      all-map (λ j h. record {
-        sends = waiting-sends f j (w .nodes .1) h;
-        show = (h .within .show .0, omega (arith, h .within .show .1, w .shows .1));
-        room = room j h;
-      }) (waitingOf f) (waiting-jobs f sized e)
+      all-both (λ j z h. record {
+        sends = waiting-sends f j (w .nodes .1) z (h .0) (h .1);
+        show = (h .0 .show .0, omega (arith, h .0 .show .1, w .shows .1));
+        room = room j (h .0);
+      }) (waitingOf f) (all-take JobSized (f .waiting) (f .jobs) (sized .each)) (passes-jobs f e)
 
   pub by-start-can-begin : All (CanBegin f) (byStart (waitingOf f))
   by-start-can-begin = perm-all (CanBegin f) (by-start-perm (waitingOf f)) waiting-can-begin

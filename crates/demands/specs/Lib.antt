@@ -1,0 +1,19 @@
+-- The three demands. What a reader must believe besides the planner's definitions is CallLists and the claim that begins Demand3; the other files
+-- show what follows from them.
+pub mod CallLists
+pub mod QuestionEleven
+pub mod Offers
+pub mod OfferPasses
+pub mod BegunJobs
+pub mod HeldTicks
+pub mod JobNumbers
+pub mod MoveAnswers
+pub mod MovePasses
+pub mod Starts
+pub mod Outcome
+pub mod Invariant
+pub mod Lifecycles
+pub mod Demand1
+pub mod Demand3
+pub mod Listing
+pub mod Cases
