@@ -24,7 +24,8 @@ use walk::Busy;
 use walk::Job;
 use walk::Plan;
 use walk::Terms;
-use walk::by_deadline;
+use walk::Time;
+use walk::by_time;
 use walk::finish_of;
 use walk::walked;
 
@@ -224,7 +225,7 @@ fn walk_with(farm: Farm, job: Job) -> Plan
     let waiting = farm.waiting;
     let mut jobs = farm.jobs;
     jobs[waiting] = job;
-    let ordered = by_deadline(jobs, waiting + 1);
+    let ordered = by_time(jobs, waiting + 1, Time::Deadline);
     let costs = farm.costs;
     let terms = Terms {
         costs,

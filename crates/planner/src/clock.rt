@@ -25,7 +25,8 @@ use timetable::lines::write_lines;
 use walk::Busy;
 use walk::Chunk;
 use walk::Job;
-use walk::by_start;
+use walk::Time;
+use walk::by_time;
 
 // What a call comes to: the first `count` jobs, whose lines it writes, and its reply.
 pub struct Issue {
@@ -106,7 +107,7 @@ fn moving(farm: Farm, time: u64, room: usize) -> Issue
     if !any_begins(jobs, waiting, time) {
         return unbegun(farm, time);
     }
-    let ordered = by_start(jobs, waiting);
+    let ordered = by_time(jobs, waiting, Time::Start);
     let count = begun(ordered, waiting, time);
     let lines = line_count(ordered, count);
     if room < lines {
@@ -135,7 +136,7 @@ fn showing(farm: Farm, room: usize) -> Issue
     }
     let waiting = farm.waiting;
     let jobs = farm.jobs;
-    let ordered = by_start(jobs, waiting);
+    let ordered = by_time(jobs, waiting, Time::Start);
     let total = line_count(ordered, waiting);
     if room < total {
         return stopped(farm, Question::Lines);

@@ -18,6 +18,8 @@ use Rattle.walk.specs.declared.Job.{Job}
 use Rattle.walk.specs.declared.Terms.{Terms}
 use Rattle.walk.specs.declared.Busy.{Busy}
 use Rattle.walk.specs.declared.Chunk.{Chunk}
+use Rattle.walk.specs.declared.Time.{Time}
+use Rattle.walk.specs.declared.Time.the-variants.{Deadline, Start}
 
 -- the greatest tick, allowance and count of job numbers
 abbrev pub greatest : ℕ
@@ -125,6 +127,10 @@ deadlineOf j = j .deadline
 
 abbrev pub startOf : Job → ℕ
 startOf j = j .booking .start
+
+abbrev pub timeOf : Time → Job → ℕ
+timeOf Deadline = deadlineOf
+timeOf Start = startOf
 
 -- jobs by deadline, equal deadlines by job number
 abbrev pub byDeadline : List Job → List Job
