@@ -20,7 +20,7 @@ use Rattle.booking.specs.Best.{freeAt, chosen, units}
 use Rattle.walk.specs.declared.Job.{Job}
 use Rattle.walk.specs.declared.Busy.{Busy}
 use Rattle.walk.specs.declared.Chunk.{Chunk}
-use Rattle.walk.specs.Model.{greatest, noJob, chunkAt, Span, placed, spansOf, spansOfAll, after, keysBy, startOf, byStart, inOrder, fitAll}
+use Rattle.walk.specs.Model.{greatest, noJob, chunkAt, Span, placed, spansOf, spansOfAll, after, byStart, inOrder, fitAll}
 use Rattle.walk.specs.Chunks.{Sends, linesFrom, lines-next, lines-none}
 use Rattle.soundness.specs.declared.Figures.{Figures}
 use Rattle.soundness.specs.declared.Fit.{Fit}
@@ -47,7 +47,6 @@ pub record Bounded (c : Costs) (j : Job) : Type 0 where
 pub record Surveys (g : Figures) (js : List Job) (n : ℕ) (r : Survey) : Type 0 where
   pub tells : r .passes ≡ jobsPass g js
   pub numbers : r .passes ≡ true → take n (r .numbers) ≡ numbersOf js
-  pub keys : r .passes ≡ true → take n (r .keys) ≡ keysBy startOf 0 js
   pub many : length (r .numbers) ≡ 128
 
 abbrev pub Inside : ℕ → Key → Type 0

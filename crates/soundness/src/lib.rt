@@ -6,7 +6,7 @@ ghost use Prim.Native.Nat.{_≤_};
 ghost use lib.ListN.{take};
 ghost use Rattle.lists.specs.Laws.{All};
 ghost use Rattle.booking.specs.Best.{units};
-ghost use Rattle.walk.specs.Model.{keysBy, startOf, byStart, spansOfAll, inOrder, fitAll};
+ghost use Rattle.walk.specs.Model.{byStart, spansOfAll, inOrder, fitAll};
 ghost use Rattle.soundness.specs.Model.{noneOf, allDiffer, nodesKnown, sharesKept, jobWithin, jobPasses, waitingPass};
 ghost use Rattle.soundness.specs.Sound.{Usable};
 ghost use Rattle.soundness.specs.Steps.{NoOverflow, Bounded, Inside, Surveys, FitResult};
@@ -21,7 +21,9 @@ use numbers::wide32;
 use shares::Costs;
 use walk::Busy;
 use walk::Job;
+use walk::Time;
 use walk::chunk_at;
+use walk::keys_by;
 
 // What each waiting job is held against.
 pub struct Figures {
@@ -32,11 +34,10 @@ pub struct Figures {
     pub costs: Costs,
 }
 
-// Whether each job passes by itself and, if so, the jobs' numbers and their keys by start.
+// Whether each job passes by itself and, if so, the jobs' numbers.
 struct Survey {
     pub passes: bool,
     pub numbers: [u64; 128],
-    pub keys: [Key; 128],
 }
 
 // Whether a job's chunks fit behind what came before them, and the free times after them.
@@ -126,17 +127,12 @@ fn job_passes(figures: Figures, job: Job) -> bool
     shares_kept(figures.costs, job)
 }
 
-// Each of the first `count` jobs by itself, and on the way their numbers and their keys by start: the jobs are gone through once.
+// Each of the first `count` jobs by itself, and on the way their numbers: the jobs are gone through once.
 fn surveyed(figures: Figures, jobs: [Job; 128], count: usize) -> Survey
     requires { ⌜ Usable figures × (count ≤ 128) ⌝ }
     ensures { λ r. ⌜ Surveys figures (take count jobs) count r ⌝ }
 {
     let mut numbers = [0u64; 128];
-    let mut keys = [Key {
-        time: 0,
-        number: 0,
-        place: 0,
-    }; 128];
     let mut i = 0;
     while i < count {
         let job = jobs[i];
@@ -144,23 +140,14 @@ fn surveyed(figures: Figures, jobs: [Job; 128], count: usize) -> Survey
             return Survey {
                 passes: false,
                 numbers,
-                keys,
             };
         }
-        let booking = job.booking;
-        let number = job.number;
-        numbers[i] = number;
-        keys[i] = Key {
-            time: booking.start,
-            number,
-            place: i,
-        };
+        numbers[i] = job.number;
         i += 1;
     }
     Survey {
         passes: true,
         numbers,
-        keys,
     }
 }
 
@@ -247,10 +234,11 @@ fn jobs_fit(costs: Costs, busy: Busy, jobs: [Job; 128], keys: [Key; 128], count:
 }
 
 // The jobs by their starts, one after the other. They mostly stand in that order already.
-fn in_turn(costs: Costs, busy: Busy, jobs: [Job; 128], keys: [Key; 128], count: usize) -> bool
-    requires { ⌜ (count ≤ 128) × All (Bounded costs) (take count jobs) × (take count keys ≡ keysBy startOf 0 (take count jobs)) ⌝ }
+fn in_turn(costs: Costs, busy: Busy, jobs: [Job; 128], count: usize) -> bool
+    requires { ⌜ (count ≤ 128) × All (Bounded costs) (take count jobs) ⌝ }
     ensures { λ r. ⌜ r ≡ fitAll busy (spansOfAll costs (byStart (take count jobs))) ⌝ }
 {
+    let keys = keys_by(jobs, count, Time::Start);
     let order = keys::sorted(keys, count);
     jobs_fit(costs, busy, jobs, order, count)
 }
@@ -270,6 +258,5 @@ pub fn waiting_pass(figures: Figures, busy: Busy, jobs: [Job; 128], count: usize
     if !all_differ(&numbers[0..count]) {
         return false;
     }
-    let keys = survey.keys;
-    in_turn(figures.costs, busy, jobs, keys, count)
+    in_turn(figures.costs, busy, jobs, count)
 }

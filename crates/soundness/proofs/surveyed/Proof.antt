@@ -6,8 +6,6 @@ use native.Mathlib.Omega.{arith}
 use lib.ListN.{length, take, length-set}
 use lib.Seq.{slice}
 use borrow.Author.Tests.{not-true, not-false}
-use Rattle.walk.specs.Model.{keysBy, startOf}
-use Rattle.walk.specs.Rows.{keys-more}
 use Rattle.soundness.specs.Model.{jobsPass, numbersOf}
 use Rattle.soundness.specs.Steps.{pass-more, pass-stop, pass-none, numbers-more}
 use borrow.Author.Needs.{needs}
@@ -15,20 +13,17 @@ use Rattle.soundness.proofs.surveyed.Statement.{statement}
 use Rattle.soundness.proofs.surveyed.Tie as tie
 
 abbrev Inv-loop : tie.InvT-loop
-Inv-loop figures count jobs numbers₀ keys₀ i₀ numbers keys i =
+Inv-loop figures count jobs numbers₀ i₀ numbers i =
     (i ≤ count)
     × (jobsPass figures (take count jobs) ≡ jobsPass figures (slice i count jobs))
     × (length numbers ≡ 128)
     × (take i numbers ≡ numbersOf (take i jobs))
-    × (length keys ≡ 128)
-    × (take i keys ≡ keysBy startOf 0 (take i jobs))
 
 abbrev μ-loop : tie.MeasureT-loop
-μ-loop figures count jobs numbers₀ keys₀ i₀ numbers keys i = count - i
+μ-loop figures count jobs numbers₀ i₀ numbers i = count - i
 
 loop-holds : tie.Need-loop-holds Inv-loop μ-loop
-unfolding keysBy
-loop-holds c = (omega arith, refl, refl, refl, refl, refl)
+loop-holds c = (omega arith, refl, refl, refl)
 
 mul-job : tie.Need-mul-job Inv-loop μ-loop
 mul-job c = search needs
@@ -47,7 +42,6 @@ returns c =
     record {
       tells = sym (l .inv .1 ∙ pass-stop (a .figures) (a .t2) (l .i) (a .count) (c .before .before .before .loop-test .taken) fits (sym (c .before .job-passes .ensures) ∙ not-true _ (c .if1 .taken)));
       numbers = λ e. absurd (false≢true e);
-      keys = λ e. absurd (false≢true e);
       many = l .inv .2;
     }
 
@@ -57,12 +51,6 @@ mul-numbers c = search needs
 array-write-numbers : tie.Need-array-write-numbers Inv-loop μ-loop
 array-write-numbers c = search needs
 
-mul-keys : tie.Need-mul-keys Inv-loop μ-loop
-mul-keys c = search needs
-
-array-set-from-keys : tie.Need-array-set-from-keys Inv-loop μ-loop
-array-set-from-keys c = search needs
-
 add-i : tie.Need-add-i Inv-loop μ-loop
 add-i c = search needs
 
@@ -71,16 +59,14 @@ loop-less c = search needs
 
 loop-again : tie.Need-loop-again Inv-loop μ-loop
 loop-again c =
-    let a = c .before .before .before .before .before .before .args in
-    let l = c .before .before .before .before .before .loop in
-    let h = c .before .before .before .before .loop-test .taken in
+    let a = c .before .before .before .before .before .args in
+    let l = c .before .before .before .before .loop in
+    let h = c .before .before .before .loop-test .taken in
     let fits : a .count ≤ length (a .t2) = omega arith in (
       omega arith,
-      l .inv .1 ∙ pass-more (a .figures) (a .t2) (l .i) (a .count) h fits (sym (c .before .before .job-passes .ensures) ∙ not-false _ (c .before .if1 .left)),
+      l .inv .1 ∙ pass-more (a .figures) (a .t2) (l .i) (a .count) h fits (sym (c .before .job-passes .ensures) ∙ not-false _ (c .if1 .left)),
       simp length-set (l .inv .2),
       numbers-more (a .t2) (l .numbers) (l .i) (omega arith) (omega (arith, l .inv .2)) (l .inv .3),
-      simp length-set (l .inv .4),
-      keys-more startOf (a .t2) (l .keys) (l .i) (omega arith) (omega (arith, l .inv .4)) (l .inv .5),
     )
 
 returns-2 : tie.Need-returns-2 Inv-loop μ-loop
@@ -91,7 +77,6 @@ returns-2 c =
     record {
       tells = sym (l .inv .1 ∙ ap (λ (k : ℕ). jobsPass (a .figures) (slice k (a .count) (a .t2))) all ∙ pass-none (a .figures) (a .t2) (a .count));
       numbers = λ _. subst (λ (k : ℕ). take k (l .numbers) ≡ numbersOf (take k (a .t2))) all (l .inv .3);
-      keys = λ _. subst (λ (k : ℕ). take k (l .keys) ≡ keysBy startOf 0 (take k (a .t2))) all (l .inv .5);
       many = l .inv .2;
     }
 
@@ -108,8 +93,6 @@ surveyed-spec =
     returns
     mul-numbers
     array-write-numbers
-    mul-keys
-    array-set-from-keys
     add-i
     loop-less
     loop-again

@@ -40,19 +40,19 @@ returns-2 c =
 
 in-turn-requires : tie.Need-in-turn-requires
 in-turn-requires c κs =
-    let z = c .before .before .before .before .before .before .before .before .before in
+    let z = c .before .before .before .before .before .before .before .before in
     let a = z .args in
-    let survey = c .before .before .before .before .before .before .before .before .surveyed in
-    let passed : survey .result .passes ≡ true = not-false _ (c .before .before .before .before .before .before .if1 .left) in
-    (z .pre .1, all-bounded (a .figures) (take (a .count) (a .jobs)) (z .pre .0) (sym (survey .ensures .tells) ∙ passed), survey .ensures .keys passed)
+    let survey = c .before .before .before .before .before .before .before .surveyed in
+    let passed : survey .result .passes ≡ true = not-false _ (c .before .before .before .before .before .if1 .left) in
+    (z .pre .1, all-bounded (a .figures) (take (a .count) (a .jobs)) (z .pre .0) (sym (survey .ensures .tells) ∙ passed))
 
 returns-3 : tie.Need-returns-3
 returns-3 c =
-    let a = c .before .before .before .before .before .before .before .before .before .before .args in
-    let survey = c .before .before .before .before .before .before .before .before .before .surveyed in
-    let passed : survey .result .passes ≡ true = not-false _ (c .before .before .before .before .before .before .before .if1 .left) in
-    let differ : c .before .before .before .all-differ .result ≡ allDiffer (numbersOf (take (a .count) (a .jobs))) = c .before .before .before .all-differ .ensures ∙ rw sub-zero (ap allDiffer (survey .ensures .numbers passed)) in
-    c .in-turn .ensures ∙ sym (waiting-rest (a .figures) (a .busy) (take (a .count) (a .jobs)) (sym (survey .ensures .tells) ∙ passed) (sym differ ∙ not-false _ (c .before .before .if2 .left)))
+    let a = c .before .before .before .before .before .before .before .before .before .args in
+    let survey = c .before .before .before .before .before .before .before .before .surveyed in
+    let passed : survey .result .passes ≡ true = not-false _ (c .before .before .before .before .before .before .if1 .left) in
+    let differ : c .before .before .all-differ .result ≡ allDiffer (numbersOf (take (a .count) (a .jobs))) = c .before .before .all-differ .ensures ∙ rw sub-zero (ap allDiffer (survey .ensures .numbers passed)) in
+    c .in-turn .ensures ∙ sym (waiting-rest (a .figures) (a .busy) (take (a .count) (a .jobs)) (sym (survey .ensures .tells) ∙ passed) (sym differ ∙ not-false _ (c .before .if2 .left)))
 
 pub waiting-pass-spec : {M : Type 1} → statement M
 waiting-pass-spec =
