@@ -19,10 +19,11 @@ use Rattle.walk.specs.declared.Chunk.{Chunk}
 use Rattle.planner.specs.declared.Farm.{Farm}
 use Rattle.planner.specs.Model.{Span, chunksFrom, linesOf, spansOf, spansOfAll, Sized, waitingOf, busyOf, termsOf}
 use Rattle.planner.specs.Passes.{passesOf}
+use Rattle.walk.specs.Model.{spansFrom}
 use Rattle.walk.specs.Chain.{chunks-finish}
 use Rattle.walk.specs.Order.{by-deadline-perm}
 use Rattle.walk.specs.Plan.{plan-numbers}
-use Rattle.soundness.specs.Sweep.{spans-all}
+use Rattle.soundness.specs.Sweep.{placed-from, spans-all}
 use Rattle.planner.specs.Calls.{newJob, queueOf, planned, withPlan}
 use Rattle.demands.specs.OfferPasses.{waiting-planned}
 use Rattle.planner.specs.Clock.{startsBy, startsAfter, begun, left, movedFarm}
@@ -123,11 +124,7 @@ whole-fulfils c n j h =
       ends = all-map (λ x k. omega (arith, h .ends)) (linesOf c j) (chunks-finish c (j .number) (j .show) s (chosen (j .booking)) (units (j .booking)));
     }
 
-placed-from : (f : ℕ) (xs : List Chunk) → All (λ (x : Span). x .from ≡ f) (map (λ (x : Chunk). record { from = f; chunk = x }) xs)
-placed-from f [] = tt
-placed-from f (x ∷ xs) = (refl, placed-from f xs)
-
-chunks-first : (c : Costs) (j s t : ℕ) (ks xs : List ℕ) → FromFirst (map (λ (x : Chunk). record { from = t; chunk = x }) (chunksFrom c j s t ks xs))
+chunks-first : (c : Costs) (j s t : ℕ) (ks xs : List ℕ) → FromFirst (spansFrom c j s t t ks xs)
 unfolding chunksFrom
 chunks-first c j s t [] [] = tt
 chunks-first c j s t [] (a ∷ xs) = tt

@@ -12,6 +12,7 @@ use Rattle.shares.specs.declared.Costs.{Costs}
 use Rattle.booking.specs.Best.{chosen, units}
 use Rattle.walk.specs.declared.Job.{Job}
 use Rattle.walk.specs.declared.Chunk.{Chunk}
+use Rattle.walk.specs.Model.{spansFrom}
 use Rattle.walk.specs.Chain.{Proper}
 use Rattle.walk.specs.Order.{by-start-perm}
 use Rattle.soundness.specs.Sweep.{spans-each}
@@ -30,7 +31,7 @@ StartsDiffer a b = a .booking .start ≡ b .booking .start → ⊥
 
 -- A job's first chunk is sent at its start.
 first-chunk : (P : Span → Type 0) (c : Costs) (n s f t : ℕ) (ks xs : List ℕ) → length ks ≡ length xs → 1 ≤ length ks
-    → All P (map (λ (x : Chunk). record { from = f; chunk = x }) (chunksFrom c n s t ks xs)) → (x : Span) × (P x × (x .chunk .start ≡ t))
+    → All P (spansFrom c n s f t ks xs) → (x : Span) × (P x × (x .chunk .start ≡ t))
 unfolding chunksFrom
 first-chunk P c n s f t [] xs e h a = absurd (omega arith)
 first-chunk P c n s f t (k ∷ ks) [] e h a = absurd (omega arith)

@@ -12,7 +12,7 @@ use Rattle.booking.specs.Best.{freeAt, chosen, units}
 use Rattle.walk.specs.declared.Job.{Job}
 use Rattle.walk.specs.declared.Busy.{Busy}
 use Rattle.walk.specs.declared.Chunk.{Chunk}
-use Rattle.walk.specs.Model.{Span, chunksFrom, linesOf, spansOf, spansOfAll, Includes, Apart}
+use Rattle.walk.specs.Model.{Span, chunksFrom, linesOf, spansOf, spansOfAll, Includes, Apart, placed}
 use Rattle.walk.specs.Chain.{Fits, Proper, Follows}
 
 -- ---- The spans of several jobs
@@ -51,11 +51,8 @@ apart-sym x y a = record { node = λ e t h k. a .node (sym e) t k h; send = λ t
 
 -- ---- One job's spans
 
--- chunks as spans from f
-abbrev placed : ℕ → List Chunk → List Span
-placed f xs = map (λ (x : Chunk). record { from = f; chunk = x }) xs
-
-placed-from : (f : ℕ) (xs : List Chunk) → All (λ (x : Span). x .from ≡ f) (placed f xs)
+-- Each of them begins there.
+pub placed-from : (f : ℕ) (xs : List Chunk) → All (λ (x : Span). x .from ≡ f) (placed f xs)
 placed-from f [] = tt
 placed-from f (x ∷ xs) = (refl, placed-from f xs)
 
