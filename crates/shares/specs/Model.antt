@@ -85,7 +85,7 @@ earliest c n z (suc w) = cond (leb z (capacity c n w)) (earliest c n z w) (suc w
 
 -- ---- What the functions answer
 
--- They answer for costs with a send cost and for at most 64 nodes. For anything else they say 0 units, no count of nodes,
+-- They answer for costs with a send cost and for at most 64 nodes. For anything else they say no count of nodes,
 -- the window that they were given, and no shares.
 abbrev pub answers : Costs → ℕ → Bool
 answers c n = leb 1 (c .send) && leb n 64
