@@ -4,12 +4,7 @@ use Prim.Native.Nat.{ℕ, zero, suc, _+_, _/_, _%_}
 use mathlib.Core.List.{List, [], _∷_, _++_}
 use mathlib.Core.Bool.{cond}
 use lib.Dec.{leb, eqb}
-
-abbrev pub tab : ℕ
-tab = 9
-
-abbrev pub newline : ℕ
-newline = 10
+use Rattle.text.specs.Model.{tab, newline}
 
 -- ---- Numbers
 

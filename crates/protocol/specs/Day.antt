@@ -9,7 +9,8 @@ use lib.Dec.{leb, eqb}
 use lib.ListN.{length}
 use Rattle.planner.specs.declared.Farm.{Farm}
 use Rattle.planner.specs.Calls.{unopened}
-use Rattle.reading.specs.Model.{newline, onFirst}
+use Rattle.text.specs.Model.{newline}
+use Rattle.reading.specs.Model.{onFirst}
 use Rattle.protocol.specs.Model.{Answered, answered, linesIn, answers, dayText, Pending, part, kept, ended, Fed, behind, feed, atEnd, longest}
 use Rattle.protocol.specs.Feeding.{feed-append, keptAll, kept-fits, kept-over}
 

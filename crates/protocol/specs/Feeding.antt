@@ -9,7 +9,8 @@ use lib.Dec.{ltb, eqb}
 use lib.ListN.{length, take, drop, length-append, length-drop}
 use lib.Seq.{take-add, drop-drop, take-all}
 use Rattle.planner.specs.declared.Farm.{Farm}
-use Rattle.reading.specs.Model.{newline, before}
+use Rattle.text.specs.Model.{newline}
+use Rattle.reading.specs.Model.{before}
 use Rattle.protocol.specs.Model.{Pending, part, long, kept, ended, Fed, behind, feed, longest}
 
 -- ---- Blocks

@@ -7,7 +7,7 @@ use borrow.Author.Tests.{le-leb, lt-leb}
 use lib.ListN.{length, take}
 use lib.Seq.{paste, take-paste, length-take-le}
 use Rattle.protocol.specs.declared.Rest.{Rest}
-use Rattle.protocol.specs.Model.{longest, long}
+use Rattle.protocol.specs.Model.{longest}
 use Rattle.protocol.specs.Feeding.{keptAll, kept-long, kept-fits, kept-over}
 use Rattle.protocol.specs.Rows.{pendingOf}
 

@@ -1,5 +1,5 @@
 -- The line of an answer, as the crate printing takes it, and the chunk lines of a clock move.
-use mathlib.Core.Path.{_≡_, refl, ap, sym, subst, _∙_}
+use mathlib.Core.Path.{_≡_, refl, ap, sym, _∙_}
 use mathlib.Core.List.{List, [], _∷_, _++_, append-nil, append-assoc}
 use mathlib.Core.Bool.{Bool, true, false, cond}
 use Prim.Native.Nat.{ℕ, _+_, _*_, _-_, _≤_, _<_}
@@ -18,9 +18,9 @@ use Rattle.planner.specs.declared.Answer.the-variants as answer
 use Rattle.planner.specs.Calls.{Said, said, numberOf}
 use Rattle.planner.specs.Clock.{issued, moveAsked, moveSaid, moveMemory}
 use Rattle.planner.specs.MoveKept.{move-granted}
+use Rattle.text.specs.Writing.{WroteWithin, wrote-same, wrote-join}
 use Rattle.printing.specs.declared.Line.{Line}
 use Rattle.printing.specs.Model.{lineText}
-use Rattle.protocol.specs.Writing.{Wrote, wrote-join}
 use Rattle.protocol.specs.Model.{answerText, chunkText, chunkTexts, moveLines, noWord, clockWord, lent}
 
 -- ---- An answer's line
@@ -107,10 +107,9 @@ texts-snoc [] x = append-nil (chunkText x)
 texts-snoc (y ∷ xs) x = ap (λ (l : List ℕ). chunkText y ++ l) (texts-snoc xs x) ∙ sym (append-assoc (chunkText y) (chunkTexts xs) (chunkText x))
 
 -- One chunk line more is written.
-pub chunk-next : (xs : List Chunk) (i at : ℕ) (d : Chunk) (e x y : List ℕ) (r s : ℕ) (l : Line) → i < length xs → r ≤ length e → textOf l ≡ chunkText (getD xs i d)
-    → Wrote (chunkTexts (take i xs)) at (i * 160) e x r → Wrote (textOf l) r 160 x y s → Wrote (chunkTexts (take (i + 1) xs)) at ((i + 1) * 160) e y s
-chunk-next xs i at d e x y r s l h k t a b =
+pub chunk-next : (xs : List Chunk) (i : ℕ) (d : Chunk) (l : Line) {at : ℕ} {e x y : List ℕ} {r s : ℕ} → i < length xs → r ≤ length e → textOf l ≡ chunkText (getD xs i d)
+    → WroteWithin (i * 160) (chunkTexts (take i xs)) at e x r → WroteWithin 160 (textOf l) r x y s → WroteWithin ((i + 1) * 160) (chunkTexts (take (i + 1) xs)) at e y s
+chunk-next xs i d l h k t a b =
     let more : chunkTexts (take i xs) ++ textOf l ≡ chunkTexts (take (i + 1) xs) =
     ap (λ (z : List ℕ). chunkTexts (take i xs) ++ z) t ∙ sym (rw (add-one i, take-suc xs i d h) (texts-snoc (take i xs) (getD xs i d))) in
-    subst (λ (z : List ℕ). Wrote z at ((i + 1) * 160) e y s) more
-    (wrote-join (chunkTexts (take i xs)) at (i * 160) e x r a k (textOf l) 160 ((i + 1) * 160) y s b (omega (arith, a .within, b .within)))
+    record { wrote = wrote-same more (wrote-join (a .wrote) k (b .wrote)); within = omega (arith, a .within, b .within) }

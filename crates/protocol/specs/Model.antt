@@ -10,7 +10,8 @@ use Rattle.walk.specs.declared.Chunk.{Chunk}
 use Rattle.planner.specs.declared.Farm.{Farm}
 use Rattle.planner.specs.Calls.{Said, unopened, openSaid, openFarm, offerSaid, offerFarm, accountSaid}
 use Rattle.planner.specs.Clock.{issued, moveAsked, moveSaid, moveFarm}
-use Rattle.reading.specs.Model.{newline, fields, firstOf, kindOf, readable, numbersOf, onFirst}
+use Rattle.text.specs.Model.{newline}
+use Rattle.reading.specs.Model.{fields, firstOf, kindOf, readable, numbersOf, onFirst}
 use Rattle.printing.specs.Model.{lineText}
 
 -- ---- What is printed

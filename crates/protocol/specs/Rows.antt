@@ -2,7 +2,7 @@
 use mathlib.Core.Path.{_≡_, refl, ap, sym, _∙_}
 use mathlib.Core.List.{List, [], _∷_, _++_}
 use mathlib.Core.Bool.{Bool, true, false, cond, _&&_, false≢true}
-use Prim.Native.Nat.{ℕ, zero, suc, _+_, _-_, _≤_, _<_, min}
+use Prim.Native.Nat.{ℕ, zero, suc, _-_, _≤_, _<_, min}
 use native.Mathlib.Omega.{arith}
 use borrow.Author.Tests.{leb-true, leb-false, le-leb, lt-leb}
 use lib.Dec.{leb, eqb}
@@ -11,8 +11,9 @@ use lib.Seq.{take-all, take-nil, take-at, length-take-le}
 use Rattle.shares.specs.declared.Costs.{Costs}
 use Rattle.planner.specs.declared.Farm.{Farm}
 use Rattle.planner.specs.Calls.{openSaid, openFarm, showsWithin}
+use Rattle.text.specs.Model.{value}
 use Rattle.reading.specs.declared.Row.{Row}
-use Rattle.reading.specs.Model.{fields, firstOf, othersOf, kindOf, fits, readable, allNumbers, value, numbersOf, rowWith, rowOf}
+use Rattle.reading.specs.Model.{fields, firstOf, othersOf, kindOf, fits, readable, allNumbers, numbersOf, rowWith, rowOf}
 use Rattle.protocol.specs.declared.Rest.{Rest}
 use Rattle.protocol.specs.Model.{Answered, unread, costsIn, farmLine, jobLine, clockLine, accountLine, recorded, answered, longest, Pending, part, long, ended, answerText, openWord}
 

@@ -1,5 +1,5 @@
 -- One line's answer, call by call.
-use mathlib.Core.Path.{_≡_, refl, ap, sym, subst, _∙_}
+use mathlib.Core.Path.{_≡_, refl, ap, ap₂, sym, _∙_}
 use mathlib.Core.List.{List, _++_}
 use mathlib.Core.Bool.{Bool, true, false, cond}
 use Prim.Native.Nat.{ℕ, _+_, _*_, _≤_}
@@ -12,11 +12,12 @@ use Rattle.planner.specs.declared.Answer.{Answer}
 use Rattle.planner.specs.declared.Timetable.{Timetable}
 use Rattle.planner.specs.Calls.{Said, said, Replies}
 use Rattle.planner.specs.Clock.{moveSaid, moveFarm, moveMemory}
+use Rattle.text.specs.Writing.{WroteWithin, wrote-same, wrote-join, within-same}
 use Rattle.reading.specs.declared.Row.{Row}
 use Rattle.printing.specs.declared.Line.{Line}
 use Rattle.protocol.specs.Model.{Answered, unread, answerText, chunkTexts, moveLines, clockWord, lent, jobLine, clockLine, accountLine}
 use Rattle.protocol.specs.Rows.{byRow, farmRow}
-use Rattle.protocol.specs.Writing.{Wrote, wrote-within, wrote-join, Steps, largest}
+use Rattle.protocol.specs.Writing.{Steps, largest}
 use Rattle.protocol.specs.Lines.{lineWith, textOf, line-text, chunksBefore, lines-said, few-lines, lines-front}
 
 -- ---- Which call a row is
@@ -67,20 +68,20 @@ module _ (f : Farm) (r : Row) where
 -- ---- What a step hands back
 
 -- an answer that is written is the step that says so
-pub steps-said : (x : Answered) (w : ℕ) (a : Answer) (s : Said) (k : Farm) (at : ℕ) (e y : List ℕ) (p : ℕ)
-    → k ≡ x .farm → said a ≡ s → x .text ≡ answerText w s → Wrote (answerText w (said a)) at 160 e y p → Steps x at e y (record { farm = k; at = p })
-steps-said x w a s k at e y p h q t o = record {
+pub steps-said : (x : Answered) (w : ℕ) (a : Answer) (s : Said) (k : Farm) {at : ℕ} {e y : List ℕ} {p : ℕ}
+    → k ≡ x .farm → said a ≡ s → x .text ≡ answerText w s → WroteWithin 160 (answerText w (said a)) at e y p → Steps x at e y (record { farm = k; at = p })
+steps-said x w a s k h q t o = record {
   hands = h;
-  wrote = subst (λ (l : List ℕ). Wrote l at largest e y p) (ap (answerText w) q ∙ sym t) (wrote-within (answerText w (said a)) at 160 largest e y p o (omega (arith, o .within)));
+  wrote = record { wrote = wrote-same (ap (answerText w) q ∙ sym t) (o .wrote); within = omega (arith, o .within) };
 }
 
-pub steps-unread : (f : Farm) (at : ℕ) (e y : List ℕ) (p : ℕ) → Wrote (unread f .text) at 160 e y p → Steps (unread f) at e y (record { farm = f; at = p })
-steps-unread f at e y p o = record { hands = refl; wrote = wrote-within (unread f .text) at 160 largest e y p o (omega (arith, o .within)) }
+pub steps-unread : (f : Farm) {at : ℕ} {e y : List ℕ} {p : ℕ} → WroteWithin 160 (unread f .text) at e y p → Steps (unread f) at e y (record { farm = f; at = p })
+steps-unread f o = record { hands = refl; wrote = record { wrote = o .wrote; within = omega (arith, o .within) } }
 
 -- an answer that is written is the text that says so
-pub wrote-said : (t : List ℕ) (w : ℕ) (a : Answer) (s : Said) (at : ℕ) (e y : List ℕ) (p : ℕ)
-    → said a ≡ s → t ≡ answerText w s → Wrote (answerText w (said a)) at 160 e y p → Wrote t at 160 e y p
-wrote-said t w a s at e y p q h o = subst (λ (l : List ℕ). Wrote l at 160 e y p) (ap (answerText w) q ∙ sym h) o
+pub wrote-said : (t : List ℕ) (w : ℕ) (a : Answer) (s : Said) {at : ℕ} {e y : List ℕ} {p : ℕ}
+    → said a ≡ s → t ≡ answerText w s → WroteWithin 160 (answerText w (said a)) at e y p → WroteWithin 160 t at e y p
+wrote-said t w a s q h o = within-same (ap (answerText w) q ∙ sym h) o
 
 -- ---- A clock move
 
@@ -91,13 +92,13 @@ clock-count f t a l n q e k = k ∙ ap chunksBefore (e ∙ ap (lineWith clockWor
 pub clock-few : (f : Farm) (t : ℕ) (a : Answer) (l : Line) (n : ℕ) → said a ≡ moveSaid f t lent → l ≡ lineWith clockWord (said a) → n ≡ chunksBefore l → n ≤ 1024
 clock-few f t a l n q e k = omega (arith, clock-count f t a l n q e k, few-lines f t)
 
-pub clock-steps : (f : Farm) (t : ℕ) (b : Timetable) (m : List Chunk) (l : Line) (n at : ℕ) (e x y : List ℕ) (r s : ℕ)
+pub clock-steps : (f : Farm) (t : ℕ) (b : Timetable) (m : List Chunk) (l : Line) (n : ℕ) {at : ℕ} {e x y : List ℕ} {r s : ℕ}
     → length m ≡ lent → Replies (b .reply) (moveSaid f t lent) (moveFarm f t lent) → b .lines ≡ moveMemory f t m
     → l ≡ lineWith clockWord (said (b .reply .answer)) → n ≡ chunksBefore l → at + largest ≤ length e
-    → Wrote (chunkTexts (take n (b .lines))) at (n * 160) e x r → Wrote (textOf l) r 160 x y s
+    → WroteWithin (n * 160) (chunkTexts (take n (b .lines))) at e x r → WroteWithin 160 (textOf l) r x y s
     → Steps (clockLine f t) at e y (record { farm = b .reply .farm; at = s })
 unfolding clockLine
-clock-steps f t b m l n at e x y r s len rep mem le ne room u v =
+clock-steps f t b m l n {at} {e} len rep mem le ne room u v =
     let a = b .reply .answer in
     let count = clock-count f t a l n (rep .says) le ne in
     let few = clock-few f t a l n (rep .says) le ne in
@@ -106,7 +107,10 @@ clock-steps f t b m l n at e x y r s len rep mem le ne room u v =
     let last : textOf l ≡ answerText clockWord (moveSaid f t lent) = ap textOf le ∙ line-text clockWord a ∙ ap (answerText clockWord) (rep .says) in
     record {
       hands = rep .hands;
-      wrote =
-          subst (λ (z : List ℕ). Wrote z at largest e y s) (ap (λ (z : List ℕ). z ++ textOf l) chunks ∙ ap (λ (z : List ℕ). chunkTexts (moveLines f t) ++ z) last)
-          (wrote-join (chunkTexts (take n (b .lines))) at (n * 160) e x r u (omega (arith, u .within)) (textOf l) 160 largest y s v (omega (arith, u .within, v .within)));
+      wrote = record {
+        wrote =
+            wrote-same (ap₂ (λ (y z : List ℕ). y ++ z) chunks last)
+            (wrote-join (u .wrote) (omega (arith, u .within)) (v .wrote));
+        within = omega (arith, u .within, v .within);
+      };
     }

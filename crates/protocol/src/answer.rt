@@ -3,9 +3,9 @@ ghost use mathlib.Core.Path.{_≡_};
 ghost use Prim.Native.Nat.{_+_, _*_, _≤_};
 ghost use lib.ListN.{length, take};
 ghost use Rattle.planner.specs.Calls.{said, numberOf};
+ghost use Rattle.text.specs.Writing.{WroteWithin};
 ghost use Rattle.protocol.specs.Model.{answerText, refusal, chunkText, chunkTexts};
 ghost use Rattle.protocol.specs.Lines.{lineWith, chunksBefore, textOf};
-ghost use Rattle.protocol.specs.Writing.{Wrote};
 use planner::Answer;
 use planner::Question;
 use printing::Line;
@@ -100,7 +100,7 @@ fn chunk_line(chunk: Chunk) -> Line
 // Writes the answer to a call at place `at`, and answers the place behind it.
 pub fn put_answer(out: &mut [u8], at: usize, answer: Answer, word: u64) -> usize
     requires { ⌜ at + 160 ≤ length (now out) ⌝ }
-    ensures { λ r. ⌜ Wrote (answerText word (said answer)) at 160 (now (out .entry)) (now (out .exit)) r ⌝ }
+    ensures { λ r. ⌜ WroteWithin 160 (answerText word (said answer)) at (now (out .entry)) (now (out .exit)) r ⌝ }
 {
     put(out, at, line_of(answer, word))
 }
@@ -108,7 +108,7 @@ pub fn put_answer(out: &mut [u8], at: usize, answer: Answer, word: u64) -> usize
 // Writes `no` 11: the line cannot be read, or not in its turn.
 pub fn put_unread(out: &mut [u8], at: usize) -> usize
     requires { ⌜ at + 160 ≤ length (now out) ⌝ }
-    ensures { λ r. ⌜ Wrote (refusal 11) at 160 (now (out .entry)) (now (out .exit)) r ⌝ }
+    ensures { λ r. ⌜ WroteWithin 160 (refusal 11) at (now (out .entry)) (now (out .exit)) r ⌝ }
 {
     put(
         out,
@@ -135,7 +135,7 @@ pub fn chunks_before(line: Line) -> u64
 // Writes the lines of the first `count` chunks at place `at`, and answers the place behind them.
 pub fn put_chunks(out: &mut [u8], at: usize, chunks: [Chunk; 1024], count: usize) -> usize
     requires { ⌜ (count ≤ 1024) × (at + count * 160 ≤ length (now out)) ⌝ }
-    ensures { λ r. ⌜ Wrote (chunkTexts (take count chunks)) at (count * 160) (now (out .entry)) (now (out .exit)) r ⌝ }
+    ensures { λ r. ⌜ WroteWithin (count * 160) (chunkTexts (take count chunks)) at (now (out .entry)) (now (out .exit)) r ⌝ }
 {
     let mut i = 0;
     let mut place = at;

@@ -3,9 +3,10 @@ ghost use mathlib.Core.Path.{_≡_};
 ghost use mathlib.Core.List.{[]};
 ghost use lib.ListN.{length};
 ghost use Rattle.planner.specs.Calls.{unopened};
+ghost use Rattle.text.specs.Writing.{WroteWithin};
 ghost use Rattle.protocol.specs.Model.{part};
 ghost use Rattle.protocol.specs.Rows.{pendingOf};
-ghost use Rattle.protocol.specs.Writing.{Took, Wrote, endText};
+ghost use Rattle.protocol.specs.Writing.{Took, endText};
 use crate::Progress;
 use crate::Rest;
 use crate::Session;
@@ -97,7 +98,7 @@ pub fn answer_block(session: Session, block: &[u8], from: usize, out: &mut [u8])
 
 // The end of the input: what is pending is a line if it is not empty. It writes nothing where `out` may not hold the answer.
 pub fn end_of_input(session: Session, out: &mut [u8]) -> usize
-    ensures { λ r. ⌜ Wrote (endText session (length (now (out .entry)))) 0 (length (now (out .entry))) (now (out .entry)) (now (out .exit)) r ⌝ }
+    ensures { λ r. ⌜ WroteWithin (length (now (out .entry))) (endText session (length (now (out .entry)))) 0 (now (out .entry)) (now (out .exit)) r ⌝ }
 {
     let rest = session.rest;
     if out.len() < 164000 {

@@ -3,9 +3,10 @@ ghost use mathlib.Core.Path.{_≡_};
 ghost use Prim.Native.Nat.{_+_, _≤_};
 ghost use lib.ListN.{length, getD};
 ghost use Rattle.planner.specs.Calls.{Replies, openSaid, openFarm};
+ghost use Rattle.text.specs.Writing.{WroteWithin};
 ghost use Rattle.protocol.specs.Model.{clockLine, costsIn};
 ghost use Rattle.protocol.specs.Rows.{FarmRow, byRow, allowancesIn};
-ghost use Rattle.protocol.specs.Writing.{Steps, Wrote, largest};
+ghost use Rattle.protocol.specs.Writing.{Steps, largest};
 use crate::Stepped;
 use crate::answer::chunks_before;
 use crate::answer::line_of;
@@ -66,7 +67,7 @@ fn clock_step(farm: Farm, time: u64, out: &mut [u8], at: usize) -> Stepped
 // An account: nothing changes.
 pub fn put_account(farm: Farm, row: Row, out: &mut [u8], at: usize) -> usize
     requires { ⌜ (row .kind ≡ 4) × (at + 160 ≤ length (now out)) ⌝ }
-    ensures { λ r. ⌜ Wrote (byRow farm row .text) at 160 (now (out .entry)) (now (out .exit)) r ⌝ }
+    ensures { λ r. ⌜ WroteWithin 160 (byRow farm row .text) at (now (out .entry)) (now (out .exit)) r ⌝ }
 {
     let numbers = row.numbers;
     if farm.opened {

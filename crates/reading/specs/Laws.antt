@@ -8,8 +8,9 @@ use borrow.Author.Tests.{leb-true, eqb-true}
 use lib.Dec.{leb, eqb}
 use lib.ListN.{length, take, replicate, length-append, length-take, length-replicate}
 use Rattle.lists.specs.Laws.{All, all-take, all-join}
+use Rattle.text.specs.Model.{tab, valueFrom, value}
 use Rattle.reading.specs.declared.Row.{Row}
-use Rattle.reading.specs.Model.{tab, before, same, onFirst, fields, allDigits, isNumber, allNumbers, valueFrom, value, farmWord, jobWord, clockWord, accountWord, kindOf, fits, firstOf, othersOf, numbersOf, readable, rowWith, rowOf}
+use Rattle.reading.specs.Model.{before, same, onFirst, fields, allDigits, isNumber, allNumbers, farmWord, jobWord, clockWord, accountWord, kindOf, fits, firstOf, othersOf, numbersOf, readable, rowWith, rowOf}
 use Rattle.reading.specs.Steps.{fields-cut, tens, tens-le, tens-more, tens-start}
 
 -- ---- Fields lose nothing

@@ -1,17 +1,12 @@
 -- A line of input and the record that it is, in the words of document 01: fields parted by tabs, the first a kind, the others numbers of 1 to 13
 -- digits. A line is given without its newline. Everything here is a definition; nothing is assumed.
-use Prim.Native.Nat.{ℕ, suc, _+_, _*_, _-_, min}
+use Prim.Native.Nat.{ℕ, suc, _-_, min}
 use mathlib.Core.List.{List, [], _∷_, _++_, map}
 use mathlib.Core.Bool.{Bool, true, false, cond, _&&_}
 use lib.Dec.{leb, eqb}
 use lib.ListN.{length, take, replicate}
+use Rattle.text.specs.Model.{tab, value}
 use Rattle.reading.specs.declared.Row.{Row}
-
-abbrev pub tab : ℕ
-tab = 9
-
-abbrev pub newline : ℕ
-newline = 10
 
 -- ---- Bytes
 
@@ -61,14 +56,6 @@ isNumber f = leb 1 (length f) && leb (length f) 13 && allDigits f
 unfoldable pub allNumbers : List (List ℕ) → Bool
 allNumbers [] = true
 allNumbers (f ∷ fs) = isNumber f && allNumbers fs
-
--- its value in base ten, behind digits of value v
-unfoldable pub valueFrom : ℕ → List ℕ → ℕ
-valueFrom v [] = v
-valueFrom v (b ∷ bs) = valueFrom (v * 10 + (b - 48)) bs
-
-abbrev pub value : List ℕ → ℕ
-value f = valueFrom 0 f
 
 -- ---- Kinds
 

@@ -9,9 +9,10 @@ use borrow.Author.Tests.{le-leb, lt-leb, eq-eqb, ne-eqb}
 use lib.Dec.{leb, eqb}
 use lib.ListN.{length, getD, take, drop, set, replicate, length-map}
 use lib.Seq.{sets, drop-cons, drop-length, drop-drop, take-nil}
+use Rattle.text.specs.Model.{tab, valueFrom, value}
 use Rattle.reading.specs.declared.Number.{Number}
 use Rattle.reading.specs.declared.Numbers.{Numbers}
-use Rattle.reading.specs.Model.{tab, before, same, onFirst, fields, firstOf, othersOf, allDigits, isNumber, allNumbers, valueFrom, value, kindOf, fits, readable, rowWith, rowOf}
+use Rattle.reading.specs.Model.{before, same, onFirst, fields, firstOf, othersOf, allDigits, isNumber, allNumbers, kindOf, fits, readable, rowWith, rowOf}
 
 -- ---- The next of a byte
 

@@ -4,7 +4,7 @@ use mathlib.Core.List.{[]}
 use native.Mathlib.Omega.{arith}
 use borrow.Author.Tests.{ne-eqb}
 use Rattle.printing.specs.Model.{wordOf}
-use Rattle.printing.specs.Puts.{puts-none, puts-same}
+use Rattle.text.specs.Writing.{wrote-none, wrote-same}
 use borrow.Author.Needs.{needs}
 use Rattle.printing.proofs.put_word.Statement.{statement}
 use Rattle.printing.proofs.put_word.Tie as tie
@@ -22,7 +22,7 @@ returns : tie.Need-returns
 unfolding wordOf
 returns c =
     let p = c .before .before .put-text .ensures in
-    (puts-same (sym (ap wordOf (c .before .before .before .before .before .if1 .taken))) p, omega (arith, p .place))
+    record { wrote = wrote-same (sym (ap wordOf (c .before .before .before .before .before .if1 .taken))) p; within = omega (arith, p .place) }
 
 slice-aggregate-put-text-2 : tie.Need-slice-aggregate-put-text-2
 slice-aggregate-put-text-2 c = search needs
@@ -37,7 +37,7 @@ returns-2 : tie.Need-returns-2
 unfolding wordOf
 returns-2 c =
     let p = c .before .before .put-text2 .ensures in
-    (puts-same (sym (ap wordOf (c .before .before .before .before .before .if2 .taken))) p, omega (arith, p .place))
+    record { wrote = wrote-same (sym (ap wordOf (c .before .before .before .before .before .if2 .taken))) p; within = omega (arith, p .place) }
 
 slice-aggregate-put-text-3 : tie.Need-slice-aggregate-put-text-3
 slice-aggregate-put-text-3 c = search needs
@@ -52,7 +52,7 @@ returns-3 : tie.Need-returns-3
 unfolding wordOf
 returns-3 c =
     let p = c .before .before .put-text3 .ensures in
-    (puts-same (sym (ap wordOf (c .before .before .before .before .before .if3 .taken))) p, omega (arith, p .place))
+    record { wrote = wrote-same (sym (ap wordOf (c .before .before .before .before .before .if3 .taken))) p; within = omega (arith, p .place) }
 
 slice-aggregate-put-text-4 : tie.Need-slice-aggregate-put-text-4
 slice-aggregate-put-text-4 c = search needs
@@ -67,7 +67,7 @@ returns-4 : tie.Need-returns-4
 unfolding wordOf
 returns-4 c =
     let p = c .before .before .put-text4 .ensures in
-    (puts-same (sym (ap wordOf (c .before .before .before .before .before .if4 .taken))) p, omega (arith, p .place))
+    record { wrote = wrote-same (sym (ap wordOf (c .before .before .before .before .before .if4 .taken))) p; within = omega (arith, p .place) }
 
 slice-aggregate-put-text-5 : tie.Need-slice-aggregate-put-text-5
 slice-aggregate-put-text-5 c = search needs
@@ -82,7 +82,7 @@ returns-5 : tie.Need-returns-5
 unfolding wordOf
 returns-5 c =
     let p = c .before .before .put-text5 .ensures in
-    (puts-same (sym (ap wordOf (c .before .before .before .before .before .if5 .taken))) p, omega (arith, p .place))
+    record { wrote = wrote-same (sym (ap wordOf (c .before .before .before .before .before .if5 .taken))) p; within = omega (arith, p .place) }
 
 slice-aggregate-put-text-6 : tie.Need-slice-aggregate-put-text-6
 slice-aggregate-put-text-6 c = search needs
@@ -97,7 +97,7 @@ returns-6 : tie.Need-returns-6
 unfolding wordOf
 returns-6 c =
     let p = c .before .before .put-text6 .ensures in
-    (puts-same (sym (ap wordOf (c .before .before .before .before .before .if6 .taken))) p, omega (arith, p .place))
+    record { wrote = wrote-same (sym (ap wordOf (c .before .before .before .before .before .if6 .taken))) p; within = omega (arith, p .place) }
 
 returns-7 : tie.Need-returns-7
 unfolding wordOf
@@ -112,7 +112,7 @@ returns-7 c =
       ne-eqb w 5 (c .before .if5 .left),
       ne-eqb w 6 (c .if6 .left),
     ) in
-    (puts-same (sym e) (puts-none _ _), omega arith)
+    record { wrote = wrote-same (sym e) (wrote-none _ _); within = omega arith }
 
 pub put-word-spec : {M : Type 1} → statement M
 put-word-spec =

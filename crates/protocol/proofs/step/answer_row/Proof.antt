@@ -50,7 +50,7 @@ returns-2 c =
     let o = c .before .before .before .before .before .offer in
     let p = c .before .before .put-answer in
     steps-as (row-job (a .farm) (a .row) (c .before .before .before .before .before .before .before .before .if1 .taken) (c .before .before .before .before .before .before .if3 .taken))
-    (steps-said (jobLine (a .farm) (a .row .numbers)) 2 (o .result .answer) (offerSaid (a .farm) (getD (a .row .numbers) 0 0) (getD (a .row .numbers) 1 0) (getD (a .row .numbers) 2 0)) (o .result .farm) (a .at) (a .out .now) (p .last .0) (p .result) (o .ensures .hands) (o .ensures .says) refl (p .ensures))
+    (steps-said (jobLine (a .farm) (a .row .numbers)) 2 (o .result .answer) (offerSaid (a .farm) (getD (a .row .numbers) 0 0) (getD (a .row .numbers) 1 0) (getD (a .row .numbers) 2 0)) (o .result .farm) (o .ensures .hands) (o .ensures .says) refl (p .ensures))
 
 put-unread-requires : tie.Need-put-unread-requires
 put-unread-requires c κs = search needs
@@ -63,7 +63,7 @@ returns-3 c =
     let a = c .before .before .before .before .before .before .before .before .before .args in
     let p = c .before .before .put-unread in
     steps-as (row-late (a .farm) (a .row) (c .before .before .before .before .before .before .if1 .taken) (c .before .before .before .before .if3 .left) (c .before .before .before .before .before .if2 .left) (c .before .before .before .before .before .before .before .before .before .pre .1))
-    (steps-unread (a .farm) (a .at) (a .out .now) (p .last .0) (p .result) (p .ensures))
+    (steps-unread (a .farm) (p .ensures))
 
 opening-requires : tie.Need-opening-requires
 opening-requires c κs = c .before .before .before .before .pre .0 (c .if4 .taken)
@@ -80,7 +80,7 @@ returns-4 c =
     let o = c .before .before .before .before .before .opening in
     let p = c .before .before .put-answer2 in
     steps-as (row-open (a .farm) (a .row) (c .before .before .before .before .before .before .before .if1 .left) (c .before .before .before .before .before .before .if4 .taken))
-    (steps-said (farmRow (a .row)) 1 (o .result .answer) (openSaid (getD (a .row .numbers) 0 0) (costsIn (a .row .numbers)) (allowancesIn (a .row))) (o .result .farm) (a .at) (a .out .now) (p .last .0) (p .result) (o .ensures .hands) (o .ensures .says) refl (p .ensures))
+    (steps-said (farmRow (a .row)) 1 (o .result .answer) (openSaid (getD (a .row .numbers) 0 0) (costsIn (a .row .numbers)) (allowancesIn (a .row))) (o .result .farm) (o .ensures .hands) (o .ensures .says) refl (p .ensures))
 
 put-unread-requires-2 : tie.Need-put-unread-requires-2
 put-unread-requires-2 c κs = search needs
@@ -93,7 +93,7 @@ returns-5 c =
     let a = c .before .before .before .before .before .before .before .before .args in
     let p = c .before .before .put-unread2 in
     steps-as (row-early (a .farm) (a .row) (c .before .before .before .before .before .if1 .left) (c .before .before .before .before .if4 .left))
-    (steps-unread (a .farm) (a .at) (a .out .now) (p .last .0) (p .result) (p .ensures))
+    (steps-unread (a .farm) (p .ensures))
 
 pub answer-row-spec : {M : Type 1} → statement M
 answer-row-spec =

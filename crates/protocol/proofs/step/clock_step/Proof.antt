@@ -50,8 +50,8 @@ returns c =
     let n = c .before .before .before .before .before .before .before .before .before .chunks-before in
     let p = c .before .before .before .before .before .before .before .put-chunks in
     let q = c .before .before .put in
-    clock-steps (a .farm) (a .time) (t .result) _ (l .result) (n .result) (a .at) (a .out .now) (p .last .0) (q .last .0) (p .result) (q .result)
-    refl (t .ensures .0) (t .ensures .1) (l .ensures) (n .ensures) (c .before .before .before .before .before .before .before .before .before .before .before .before .before .before .before .pre) (p .ensures) (record { place = q .ensures .0; within = q .ensures .1; memory = q .ensures .2 })
+    clock-steps (a .farm) (a .time) (t .result) _ (l .result) (n .result)
+    refl (t .ensures .0) (t .ensures .1) (l .ensures) (n .ensures) (c .before .before .before .before .before .before .before .before .before .before .before .before .before .before .before .pre) (p .ensures) (q .ensures)
 
 pub clock-step-spec : {M : Type 1} → statement M
 clock-step-spec =

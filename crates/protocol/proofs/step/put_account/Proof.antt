@@ -1,14 +1,12 @@
 -- `step::put_account` meets its contract: an answer where the farm is opened, 11 where it is not.
 use borrow.Author.Needs.{needs}
-use mathlib.Core.Path.{_≡_, refl, ap, sym, subst}
-use mathlib.Core.List.{List}
-use Prim.Native.Nat.{ℕ}
+use mathlib.Core.Path.{ap, sym}
 use lib.ListN.{getD}
 use native.Mathlib.Omega.{arith}
 use Rattle.planner.specs.Calls.{accountSaid}
 use Rattle.protocol.specs.Model.{Answered, accountLine}
 use Rattle.protocol.specs.Rows.{byRow}
-use Rattle.protocol.specs.Writing.{Wrote}
+use Rattle.text.specs.Writing.{within-same}
 use Rattle.protocol.specs.Stepping.{row-account, row-early, wrote-said}
 use Rattle.protocol.proofs.step.put_account.Statement.{statement}
 use Rattle.protocol.proofs.step.put_account.Tie as tie
@@ -32,7 +30,7 @@ returns c =
     let a = z .args in
     let o = c .before .before .before .before .account-answer in
     let p = c .before .before .put-answer in
-    wrote-said (byRow (a .farm) (a .row) .text) 5 (o .result) (accountSaid (a .farm) (getD (a .row .numbers) 0 0)) (a .at) (a .out .now) (p .last .0) (p .result) (o .ensures)
+    wrote-said (byRow (a .farm) (a .row) .text) 5 (o .result) (accountSaid (a .farm) (getD (a .row .numbers) 0 0)) (o .ensures)
     (ap (λ (x : Answered). x .text) (row-account (a .farm) (a .row) (c .before .before .before .before .before .if1 .taken) (z .pre .0))) (p .ensures)
 
 put-unread-requires : tie.Need-put-unread-requires
@@ -47,8 +45,7 @@ returns-2 c =
     let a = z .args in
     let p = c .before .before .put-unread in
     let k = z .pre .0 in
-    subst (λ (t : List ℕ). Wrote t (a .at) 160 (a .out .now) (p .last .0) (p .result))
-    (sym (ap (λ (x : Answered). x .text) (row-early (a .farm) (a .row) (c .before .before .before .before .if1 .left) (λ e. omega arith)))) (p .ensures)
+    within-same (sym (ap (λ (x : Answered). x .text) (row-early (a .farm) (a .row) (c .before .before .before .before .if1 .left) (λ e. omega arith)))) (p .ensures)
 
 pub put-account-spec : {M : Type 1} → statement M
 put-account-spec =
