@@ -10,7 +10,8 @@ use borrow.Author.Tests.{leb-true, leb-false}
 use lib.ListN.{length, getD, length-append, List·getD-append}
 use Rattle.lists.specs.Laws.{All, all-join}
 use Rattle.text.specs.Model.{valueFrom, value}
-use Rattle.printing.specs.Model.{digits, reached, powers, decimal, lineText, wordOf, tabbed}
+use Rattle.printing.specs.declared.Word.the-variants as word
+use Rattle.printing.specs.Model.{digits, reached, powers, decimal, lineText, tabbed}
 
 value-last : (a : ℕ) (ds : List ℕ) (d : ℕ) → valueFrom a (ds ++ d ∷ []) ≡ valueFrom a ds * 10 + (d - 48)
 unfolding valueFrom
@@ -137,6 +138,6 @@ decimal-leads n p h =
     digits-lead (reached n powers) n (subst (λ (m : ℕ). 10 ^ m ≤ n) e r) (decimal-holds n h)
 
 -- The line of the word `yes` and the numbers 1, 0, 18 and 2, with a tab before each number and a newline at the end.
-pub example-line : lineText 2 (1 ∷ 0 ∷ 18 ∷ 2 ∷ []) ≡ 121 ∷ 101 ∷ 115 ∷ 9 ∷ 49 ∷ 9 ∷ 48 ∷ 9 ∷ 49 ∷ 56 ∷ 9 ∷ 50 ∷ 10 ∷ []
-unfolding lineText wordOf tabbed decimal digits reached
+pub example-line : lineText word.Yes (1 ∷ 0 ∷ 18 ∷ 2 ∷ []) ≡ 121 ∷ 101 ∷ 115 ∷ 9 ∷ 49 ∷ 9 ∷ 48 ∷ 9 ∷ 49 ∷ 56 ∷ 9 ∷ 50 ∷ 10 ∷ []
+unfolding lineText tabbed decimal digits reached
 example-line = refl

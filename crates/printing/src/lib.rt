@@ -7,9 +7,19 @@ ghost use Rattle.text.specs.Model.{tab};
 ghost use Rattle.text.specs.Writing.{Wrote, WroteWithin};
 ghost use Rattle.printing.specs.Model.{digits, reached, powers, decimal, wordOf, tabbed, lineText};
 
-// An answer's line: the word (1 to 6 for open, yes, chunk, clock, account and no) and the first `count` numbers.
+// The first word of a line.
+pub enum Word {
+    Open,
+    Yes,
+    Chunk,
+    Clock,
+    Account,
+    No,
+}
+
+// An answer's line: its word and the first `count` numbers.
 pub struct Line {
-    pub word: u64,
+    pub word: Word,
     pub count: usize,
     pub numbers: [u64; 7],
 }
@@ -50,30 +60,51 @@ fn put_text(out: &mut [u8], at: usize, text: &[u8]) -> usize
     at + i
 }
 
-// A word by its number; another number writes nothing.
-fn put_word(out: &mut [u8], at: usize, word: u64) -> usize
+// The bytes of a word: the first `count`.
+struct Spelling {
+    count: usize,
+    bytes: [u8; 7],
+}
+
+fn spelling_of(word: Word) -> Spelling
+    ensures { λ r. ⌜ (r .count ≤ 7) × (length (r .bytes) ≡ 7) × (take (r .count) (r .bytes) ≡ wordOf word) ⌝ }
+{
+    match word {
+        Word::Open => Spelling {
+            count: 4,
+            bytes: *b"open\0\0\0",
+        },
+        Word::Yes => Spelling {
+            count: 3,
+            bytes: *b"yes\0\0\0\0",
+        },
+        Word::Chunk => Spelling {
+            count: 5,
+            bytes: *b"chunk\0\0",
+        },
+        Word::Clock => Spelling {
+            count: 5,
+            bytes: *b"clock\0\0",
+        },
+        Word::Account => Spelling {
+            count: 7,
+            bytes: *b"account",
+        },
+        Word::No => Spelling {
+            count: 2,
+            bytes: *b"no\0\0\0\0\0",
+        },
+    }
+}
+
+fn put_word(out: &mut [u8], at: usize, word: Word) -> usize
     requires { ⌜ at + 7 ≤ length (now out) ⌝ }
     ensures { λ r. ⌜ WroteWithin 7 (wordOf word) at (now (out .entry)) (now (out .exit)) r ⌝ }
 {
-    if word == 1 {
-        return put_text(out, at, b"open");
-    }
-    if word == 2 {
-        return put_text(out, at, b"yes");
-    }
-    if word == 3 {
-        return put_text(out, at, b"chunk");
-    }
-    if word == 4 {
-        return put_text(out, at, b"clock");
-    }
-    if word == 5 {
-        return put_text(out, at, b"account");
-    }
-    if word == 6 {
-        return put_text(out, at, b"no");
-    }
-    at
+    let spelling = spelling_of(word);
+    let count = spelling.count;
+    let bytes = spelling.bytes;
+    put_text(out, at, &bytes[0..count])
 }
 
 // How many digits a number has.
@@ -134,8 +165,9 @@ pub fn put(out: &mut [u8], at: usize, line: Line) -> usize
     requires { ⌜ (line .count ≤ 7) × (at + 160 ≤ length (now out)) ⌝ }
     ensures { λ r. ⌜ WroteWithin 160 (lineText (line .word) (take (line .count) (line .numbers))) at (now (out .entry)) (now (out .exit)) r ⌝ }
 {
+    let word = line.word;
     let numbers = line.numbers;
-    let word_end = put_word(out, at, line.word);
+    let word_end = put_word(out, at, word);
     let line_end = put_numbers(out, word_end, numbers, line.count);
     put_text(out, line_end, b"\n")
 }

@@ -49,50 +49,54 @@ module _ (f : Farm) (r : Rest) (block : List ℕ) (from : ℕ) (entry : List ℕ
     size = refl;
   }
 
-  module _ (farm : Farm) (rest : Rest) (next at : ℕ) (out : List ℕ) (g : Going farm rest next at out) where
-    -- the block ends, or there is no room
-    pub going-took : (next < length block → length entry < at + largest) → Took (record { farm = f; rest = r }) block from entry out (record { session = record { farm = farm; rest = rest }; next = next; written = at })
-    going-took h = record {
-      onward = g .onward;
-      inside = g .inside;
-      stops = h;
-      farm = sym (g .farms);
-      pending = sym (g .pending);
-      wrote = g .wrote;
-    }
+module _ {f : Farm} {r : Rest} {block : List ℕ} {from : ℕ} {entry : List ℕ} {farm : Farm} {rest : Rest} {next at : ℕ} {out : List ℕ} (g : Going f r block from entry farm rest next at out) where
+  -- what the bytes so far come to
+  abbrev soFar : Fed
+  soFar = upTo f r block from entry next
 
-    module _ (end : ℕ) (line : Rest) (e : end ≡ next + before newline (drop next block)) (l : pendingOf line ≡ keptAll (pendingOf rest) (stretch next end block)) where
-      kept-line : keptAll (upTo next .pending) (stretch next end block) ≡ pendingOf line
-      kept-line = ap (λ (p : Pending). keptAll p (stretch next end block)) (g .pending) ∙ sym l
+  -- the block ends, or there is no room
+  pub going-took : (next < length block → length entry < at + largest) → Took (record { farm = f; rest = r }) block from entry out (record { session = record { farm = farm; rest = rest }; next = next; written = at })
+  going-took h = record {
+    onward = g .onward;
+    inside = g .inside;
+    stops = h;
+    farm = sym (g .farms);
+    pending = sym (g .pending);
+    wrote = g .wrote;
+  }
 
-      -- no newline is left
-      pub going-rest : end ≡ length block → Took (record { farm = f; rest = r }) block from entry out (record { session = record { farm = farm; rest = line }; next = end; written = at })
-      going-rest h =
-          let x = fed-rest f (pendingOf r) block from next end (upTo next) (g .onward) e refl h in
-          record {
-            onward = omega (arith, g .onward);
-            inside = λ k. omega arith;
-            stops = λ k. absurd (omega arith);
-            farm = sym (ap (λ (y : Fed). y .farm) x ∙ g .farms);
-            pending = sym (ap (λ (y : Fed). y .pending) x ∙ kept-line);
-            wrote = within-same (sym (ap (λ (y : Fed). y .text) x ∙ append-nil (upTo next .text))) (g .wrote);
-          }
+  module _ {end : ℕ} (line : Rest) (e : end ≡ next + before newline (drop next block)) (l : pendingOf line ≡ keptAll (pendingOf rest) (stretch next end block)) where
+    kept-line : keptAll (soFar .pending) (stretch next end block) ≡ pendingOf line
+    kept-line = ap (λ (p : Pending). keptAll p (stretch next end block)) (g .pending) ∙ sym l
 
-      -- a line ends and is answered
-      pub going-line : (x : Answered) (later : Farm) (empty : Rest) (most place : ℕ) (back : List ℕ) → end < length block → ended farm (pendingOf line) ≡ x → later ≡ x .farm → pendingOf empty ≡ part []
-          → WroteWithin most (x .text) at out back place → place ≤ length entry → Going later empty (end + 1) place back
-      going-line x later empty most place back h a d z w k =
-          let y = fed-line f (pendingOf r) block from next end (upTo next) (g .onward) e refl h in
-          let b : ended (upTo next .farm) (keptAll (upTo next .pending) (stretch next end block)) ≡ x = ap₂ ended (g .farms) kept-line ∙ a in
-          let all = wrote-join (g .wrote .wrote) (omega (arith, g .wrote .within)) (w .wrote) in
-          record {
-            onward = omega (arith, g .onward);
-            inside = λ q. omega arith;
-            farms = ap (λ (u : Fed). u .farm) y ∙ ap (λ (u : Answered). u .farm) b ∙ sym d;
-            pending = ap (λ (u : Fed). u .pending) y ∙ sym z;
-            wrote = record { wrote = wrote-same (sym (ap (λ (u : Fed). u .text) y ∙ ap (λ (u : Answered). upTo next .text ++ u .text) b)) all; within = omega arith };
-            size = wrote-length all k;
-          }
+    -- no newline is left
+    pub going-rest : end ≡ length block → Took (record { farm = f; rest = r }) block from entry out (record { session = record { farm = farm; rest = line }; next = end; written = at })
+    going-rest h =
+        let x = fed-rest f (pendingOf r) block from next end soFar (g .onward) e refl h in
+        record {
+          onward = omega (arith, g .onward);
+          inside = λ k. omega arith;
+          stops = λ k. absurd (omega arith);
+          farm = sym (ap (λ (y : Fed). y .farm) x ∙ g .farms);
+          pending = sym (ap (λ (y : Fed). y .pending) x ∙ kept-line);
+          wrote = within-same (sym (ap (λ (y : Fed). y .text) x ∙ append-nil (soFar .text))) (g .wrote);
+        }
+
+    -- a line ends and is answered
+    pub going-line : {x : Answered} {later : Farm} {empty : Rest} {most place : ℕ} {back : List ℕ} → end < length block → ended farm (pendingOf line) ≡ x → later ≡ x .farm → pendingOf empty ≡ part []
+        → WroteWithin most (x .text) at out back place → place ≤ length entry → Going f r block from entry later empty (end + 1) place back
+    going-line h a d z w k =
+        let y = fed-line f (pendingOf r) block from next end soFar (g .onward) e refl h in
+        let b = ap₂ ended (g .farms) kept-line ∙ a in
+        let all = wrote-join (g .wrote .wrote) (omega (arith, g .wrote .within)) (w .wrote) in
+        record {
+          onward = omega (arith, g .onward);
+          inside = λ q. omega arith;
+          farms = ap (λ (u : Fed). u .farm) y ∙ ap (λ (u : Answered). u .farm) b ∙ sym d;
+          pending = ap (λ (u : Fed). u .pending) y ∙ sym z;
+          wrote = record { wrote = wrote-same (sym (ap (λ (u : Fed). u .text) y ∙ ap (λ (u : Answered). soFar .text ++ u .text) b)) all; within = omega arith };
+          size = wrote-length all k;
+        }
 
 -- ---- The end of the input
 

@@ -20,8 +20,10 @@ use Rattle.planner.specs.Clock.{issued, moveAsked, moveSaid, moveMemory}
 use Rattle.planner.specs.MoveKept.{move-granted}
 use Rattle.text.specs.Writing.{WroteWithin, wrote-same, wrote-join}
 use Rattle.printing.specs.declared.Line.{Line}
+use Rattle.printing.specs.declared.Word.{Word}
+use Rattle.printing.specs.declared.Word.the-variants as word
 use Rattle.printing.specs.Model.{lineText}
-use Rattle.protocol.specs.Model.{answerText, chunkText, chunkTexts, moveLines, noWord, clockWord, lent}
+use Rattle.protocol.specs.Model.{answerText, chunkText, chunkTexts, moveLines, lent}
 
 -- ---- An answer's line
 
@@ -29,11 +31,11 @@ abbrev pub padded : List ℕ → List ℕ
 padded vs = vs ++ replicate (7 - length vs) 0
 
 -- its word and values where it was granted, else `no` and the number
-unfoldable pub lineWith : ℕ → Said → Line
+unfoldable pub lineWith : Word → Said → Line
 lineWith w s =
     cond (eqb (s .number) 0)
     (record { word = w; count = length (s .values); numbers = padded (s .values) })
-    (record { word = noWord; count = 1; numbers = padded (s .number ∷ []) })
+    (record { word = word.No; count = 1; numbers = padded (s .number ∷ []) })
 
 abbrev pub textOf : Line → List ℕ
 textOf l = lineText (l .word) (take (l .count) (l .numbers))
@@ -51,7 +53,7 @@ no-number question.Time = refl
 no-number question.Lines = refl
 no-number question.Farm = refl
 
-pub line-text : (w : ℕ) (a : Answer) → textOf (lineWith w (said a)) ≡ answerText w (said a)
+pub line-text : (w : Word) (a : Answer) → textOf (lineWith w (said a)) ≡ answerText w (said a)
 unfolding lineWith answerText
 line-text w (answer.Open n s) = refl
 line-text w (answer.Yes j s t k) = refl
@@ -60,7 +62,7 @@ line-text w (answer.Shown n) = refl
 line-text w (answer.Account s h c) = refl
 line-text w (answer.No q) = rw (no-number q)
 
-pub line-count : (w : ℕ) (a : Answer) → lineWith w (said a) .count ≤ 7
+pub line-count : (w : Word) (a : Answer) → lineWith w (said a) .count ≤ 7
 unfolding lineWith
 line-count w (answer.Open n s) = omega arith
 line-count w (answer.Yes j s t k) = omega arith
@@ -71,15 +73,15 @@ line-count w (answer.No q) = rw (no-number q) (omega arith)
 
 -- ---- The chunk lines of a clock move
 
--- how many chunk lines stand before a clock line: as many as it says, none before `no`
+-- how many chunk lines stand before the line of a clock move: its second number, 0 in a refusal
 abbrev pub chunksBefore : Line → ℕ
-chunksBefore l = cond (eqb (l .word) clockWord) (getD (l .numbers) 1 0) 0
+chunksBefore l = getD (l .numbers) 1 0
 
-pub lines-said : (f : Farm) (t : ℕ) → chunksBefore (lineWith clockWord (moveSaid f t lent)) ≡ length (moveLines f t)
+pub lines-said : (f : Farm) (t : ℕ) → chunksBefore (lineWith word.Clock (moveSaid f t lent)) ≡ length (moveLines f t)
 unfolding lineWith moveSaid moveLines
 lines-said f t = go (eqb (moveAsked f t lent) 0) refl
   where
-    go : (b : Bool) → eqb (moveAsked f t lent) 0 ≡ b → chunksBefore (lineWith clockWord (moveSaid f t lent)) ≡ length (moveLines f t)
+    go : (b : Bool) → eqb (moveAsked f t lent) 0 ≡ b → chunksBefore (lineWith word.Clock (moveSaid f t lent)) ≡ length (moveLines f t)
     go true e = rw e
     go false e = rw (e, e)
 

@@ -5,11 +5,14 @@ use mathlib.Core.Bool.{cond}
 use Prim.Native.Nat.{ℕ, _+_, _≤_, _<_}
 use lib.Dec.{leb}
 use lib.ListN.{length}
+use Rattle.planner.specs.declared.Reply.{Reply}
+use Rattle.planner.specs.Calls.{said}
 use Rattle.text.specs.Writing.{WroteWithin}
+use Rattle.printing.specs.declared.Word.{Word}
 use Rattle.protocol.specs.declared.Session.{Session}
 use Rattle.protocol.specs.declared.Progress.{Progress}
 use Rattle.protocol.specs.declared.Stepped.{Stepped}
-use Rattle.protocol.specs.Model.{Answered, Fed, feed, atEnd}
+use Rattle.protocol.specs.Model.{Answered, answerText, Fed, feed, atEnd}
 use Rattle.protocol.specs.Feeding.{stretch}
 use Rattle.protocol.specs.Rows.{pendingOf}
 
@@ -21,6 +24,10 @@ largest = 164_000
 pub record Steps (x : Answered) (at : ℕ) (entry exit : List ℕ) (r : Stepped) : Type 0 where
   pub hands : r .farm ≡ x .farm
   pub wrote : WroteWithin largest (x .text) at entry exit (r .at)
+
+-- the answer of a reply, and its farm
+abbrev pub replied : Word → Reply → Answered
+replied w r = record { farm = r .farm; text = answerText w (said (r .answer)) }
 
 -- what bytes come to, fed to a day so far
 abbrev pub fedTo : Session → List ℕ → Fed

@@ -14,8 +14,10 @@ use crate::answer::put_unread;
 use crate::kept::row_of;
 use crate::kept::with_bytes;
 use crate::step::answer_row;
+use crate::step::in_turn;
 use crate::step::put_account;
 use planner::Farm;
+use reading::Kind;
 use reading::find;
 use shares::Costs;
 
@@ -79,14 +81,20 @@ pub fn answer_block(session: Session, block: &[u8], from: usize, out: &mut [u8])
         next = end + 1;
         let row = row_of(line);
         let kind = row.kind;
-        if kind == 0 {
+        if !in_turn(kind, farm.opened) {
             at = put_unread(out, at);
-        } else if kind == 4 {
-            at = put_account(farm, row, out, at);
         } else {
-            let done = answer_row(farm, row, out, at);
-            farm = done.farm;
-            at = done.at;
+            match kind {
+                Kind::Account => {
+                    let numbers = row.numbers;
+                    at = put_account(farm, numbers[0], out, at);
+                }
+                _ => {
+                    let done = answer_row(farm, row, out, at);
+                    farm = done.farm;
+                    at = done.at;
+                }
+            }
         }
     }
     Progress {
