@@ -2,10 +2,12 @@
 // What the public functions mean is in specs/Model.antt, what their parts work out in specs/Steps.antt.
 ghost use mathlib.Core.Path.{_≡_};
 ghost use mathlib.Core.Bool.{cond};
-ghost use Prim.Native.Nat.{min, _+_, _≤_};
+ghost use Prim.Native.Nat.{_+_, _≤_};
 ghost use lib.ListN.{length, drop, set, replicate};
 ghost use Rattle.reading.specs.Model.{before, same, kindOf, fits, rowOf};
 ghost use Rattle.reading.specs.Steps.{numberIn, behind, gathered};
+use numbers::least;
+use numbers::wide8;
 
 // The kind of a line, which its first field names; and that of a line that cannot be read.
 pub enum Kind {
@@ -111,12 +113,6 @@ fn fitting(kind: Kind, count: usize) -> bool
 
 // ---- The numbers
 
-fn wide(b: u8) -> u64
-    ensures { λ r. ⌜ (r ≡ b) × (r ≤ 255) ⌝ }
-{
-    b as u64
-}
-
 // A field of 1 to 13 digits and its value.
 fn digits(field: &[u8]) -> Number
     ensures { λ r. ⌜ r ≡ numberIn (now (field .entry)) ⌝ }
@@ -131,7 +127,7 @@ fn digits(field: &[u8]) -> Number
     let mut value: u64 = 0;
     let mut i = 0;
     while i < n {
-        let b = wide(field[i]);
+        let b = wide8(field[i]);
         if b < 48 {
             return NO_NUMBER;
         }
@@ -190,16 +186,6 @@ fn gather(line: &[u8], from: usize) -> Numbers
 
 // ---- A line
 
-// How many of so many numbers a row keeps.
-fn kept(count: usize) -> usize
-    ensures { λ r. ⌜ r ≡ min 38 count ⌝ }
-{
-    if count < 38 {
-        return count;
-    }
-    38
-}
-
 fn unreadable() -> Row
     ensures { λ r. ⌜ r ≡ record { kind = Kind.Unreadable; count = 0; numbers = replicate 38 0 } ⌝ }
 {
@@ -226,7 +212,7 @@ pub fn read(line: &[u8]) -> Row
     let numbers = x.numbers;
     Row {
         kind,
-        count: kept(x.count),
+        count: least(38, x.count),
         numbers,
     }
 }
