@@ -16,14 +16,14 @@ use Rattle.planner.specs.declared.Answer.{Answer}
 use Rattle.planner.specs.declared.Question.the-variants as question
 use Rattle.planner.specs.declared.Answer.the-variants as answer
 use Rattle.planner.specs.Calls.{Said, said, numberOf}
-use Rattle.planner.specs.Clock.{issued, moveAsked, moveSaid, moveMemory}
+use Rattle.planner.specs.Clock.{issued, moveAsked, moveSaid, moveMemory, moveLines}
 use Rattle.planner.specs.MoveKept.{move-granted}
 use Rattle.text.specs.Writing.{WroteWithin, wrote-same, wrote-join}
 use Rattle.printing.specs.declared.Line.{Line}
 use Rattle.printing.specs.declared.Word.{Word}
 use Rattle.printing.specs.declared.Word.the-variants as word
 use Rattle.printing.specs.Model.{lineText}
-use Rattle.protocol.specs.Model.{answerText, chunkText, chunkTexts, moveLines, lent}
+use Rattle.protocol.specs.Model.{answerText, chunkText, chunkTexts, lent}
 
 -- ---- An answer's line
 
@@ -77,16 +77,15 @@ line-count w (answer.No q) = rw (no-number q) (omega arith)
 abbrev pub chunksBefore : Line → ℕ
 chunksBefore l = getD (l .numbers) 1 0
 
-pub lines-said : (f : Farm) (t : ℕ) → chunksBefore (lineWith word.Clock (moveSaid f t lent)) ≡ length (moveLines f t)
-unfolding lineWith moveSaid moveLines
+pub lines-said : (f : Farm) (t : ℕ) → chunksBefore (lineWith word.Clock (moveSaid f t lent)) ≡ length (moveLines f t lent)
+unfolding lineWith moveSaid
 lines-said f t = go (eqb (moveAsked f t lent) 0) refl
   where
-    go : (b : Bool) → eqb (moveAsked f t lent) 0 ≡ b → chunksBefore (lineWith word.Clock (moveSaid f t lent)) ≡ length (moveLines f t)
+    go : (b : Bool) → eqb (moveAsked f t lent) 0 ≡ b → chunksBefore (lineWith word.Clock (moveSaid f t lent)) ≡ length (moveLines f t lent)
     go true e = rw e
     go false e = rw (e, e)
 
-pub few-lines : (f : Farm) (t : ℕ) → length (moveLines f t) ≤ lent
-unfolding moveLines
+pub few-lines : (f : Farm) (t : ℕ) → length (moveLines f t lent) ≤ lent
 few-lines f t = go (eqb (moveAsked f t lent) 0) refl
   where
     go : (b : Bool) → eqb (moveAsked f t lent) 0 ≡ b → length (cond b (issued f t) []) ≤ lent
@@ -94,8 +93,8 @@ few-lines f t = go (eqb (moveAsked f t lent) 0) refl
     go false e = omega arith
 
 -- the lines stand at the front of the lent memory
-pub lines-front : (f : Farm) (t : ℕ) (m : List Chunk) → length m ≡ lent → take (length (moveLines f t)) (moveMemory f t m) ≡ moveLines f t
-unfolding moveLines moveMemory
+pub lines-front : (f : Farm) (t : ℕ) (m : List Chunk) → length m ≡ lent → take (length (moveLines f t lent)) (moveMemory f t m) ≡ moveLines f t lent
+unfolding moveMemory
 lines-front f t m h = rw h (go (eqb (moveAsked f t lent) 0))
   where
     go : (b : Bool) → take (length (cond b (issued f t) [])) (cond b (issued f t ++ drop (length (issued f t)) m) m) ≡ cond b (issued f t) []

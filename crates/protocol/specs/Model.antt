@@ -9,7 +9,7 @@ use Rattle.shares.specs.declared.Costs.{Costs}
 use Rattle.walk.specs.declared.Chunk.{Chunk}
 use Rattle.planner.specs.declared.Farm.{Farm}
 use Rattle.planner.specs.Calls.{Said, unopened, openSaid, openFarm, offerSaid, offerFarm, accountSaid}
-use Rattle.planner.specs.Clock.{issued, moveAsked, moveSaid, moveFarm}
+use Rattle.planner.specs.Clock.{moveSaid, moveFarm, moveLines}
 use Rattle.text.specs.Model.{newline}
 use Rattle.reading.specs.declared.Kind.{Kind}
 use Rattle.reading.specs.declared.Kind.the-variants as kind
@@ -68,13 +68,9 @@ jobLine f ns = record {
 abbrev pub lent : ℕ
 lent = 1024
 
--- the chunks that a move to t issues; none where it is refused
-unfoldable pub moveLines : Farm → ℕ → List Chunk
-moveLines f t = cond (eqb (moveAsked f t lent) 0) (issued f t) []
-
 -- `clock` time: its `chunk` lines first, then its `clock` line
 unfoldable pub clockLine : Farm → ℕ → Answered
-clockLine f t = record { farm = moveFarm f t lent; text = chunkTexts (moveLines f t) ++ answerText word.Clock (moveSaid f t lent) }
+clockLine f t = record { farm = moveFarm f t lent; text = chunkTexts (moveLines f t lent) ++ answerText word.Clock (moveSaid f t lent) }
 
 -- `account` show
 unfoldable pub accountLine : Farm → ℕ → Answered

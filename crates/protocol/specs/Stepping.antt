@@ -11,14 +11,14 @@ use Rattle.planner.specs.declared.Answer.{Answer}
 use Rattle.planner.specs.declared.Reply.{Reply}
 use Rattle.planner.specs.declared.Timetable.{Timetable}
 use Rattle.planner.specs.Calls.{Said, said, Replies}
-use Rattle.planner.specs.Clock.{moveSaid, moveFarm, moveMemory}
+use Rattle.planner.specs.Clock.{moveSaid, moveFarm, moveMemory, moveLines}
 use Rattle.text.specs.Writing.{WroteWithin, wrote-same, wrote-join}
 use Rattle.reading.specs.declared.Row.{Row}
 use Rattle.printing.specs.declared.Line.{Line}
 use Rattle.printing.specs.declared.Word.{Word}
 use Rattle.printing.specs.declared.Word.the-variants as word
 use Rattle.protocol.specs.declared.Stepped.{Stepped}
-use Rattle.protocol.specs.Model.{Answered, unread, answerText, chunkTexts, moveLines, lent, inTurn, clockLine}
+use Rattle.protocol.specs.Model.{Answered, unread, answerText, chunkTexts, lent, inTurn, clockLine}
 use Rattle.protocol.specs.Rows.{byRow, calledBy}
 use Rattle.protocol.specs.Writing.{Steps, largest, replied}
 use Rattle.protocol.specs.Lines.{lineWith, textOf, line-text, chunksBefore, lines-said, few-lines, lines-front}
@@ -48,7 +48,7 @@ steps-line h o = record { hands = h; wrote = record { wrote = o .wrote; within =
 -- ---- A clock move
 
 -- the chunk lines are as many as its line says, and no more than are lent
-pub clock-count : (f : Farm) (t : ℕ) (a : Answer) (l : Line) → said a ≡ moveSaid f t lent → l ≡ lineWith word.Clock (said a) → chunksBefore l ≡ length (moveLines f t)
+pub clock-count : (f : Farm) (t : ℕ) (a : Answer) (l : Line) → said a ≡ moveSaid f t lent → l ≡ lineWith word.Clock (said a) → chunksBefore l ≡ length (moveLines f t lent)
 clock-count f t a l q e = ap chunksBefore (e ∙ ap (lineWith word.Clock) q) ∙ lines-said f t
 
 pub clock-few : (f : Farm) (t : ℕ) (a : Answer) (l : Line) → said a ≡ moveSaid f t lent → l ≡ lineWith word.Clock (said a) → chunksBefore l ≤ 1024
@@ -64,7 +64,7 @@ clock-steps f t b m l {at} {e} len rep mem le room u v =
     let a = b .reply .answer in
     let count = clock-count f t a l (rep .says) le in
     let few = clock-few f t a l (rep .says) le in
-    let chunks : chunkTexts (take (chunksBefore l) (b .lines)) ≡ chunkTexts (moveLines f t) =
+    let chunks : chunkTexts (take (chunksBefore l) (b .lines)) ≡ chunkTexts (moveLines f t lent) =
     ap chunkTexts (rw (count, mem) (lines-front f t m len)) in
     let last : textOf l ≡ answerText word.Clock (moveSaid f t lent) = ap textOf le ∙ line-text word.Clock a ∙ ap (answerText word.Clock) (rep .says) in
     record {
