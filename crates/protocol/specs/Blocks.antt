@@ -1,4 +1,4 @@
--- A block, line by line.
+-- A block, line by line, and the end of the input, for src/blocks.rt.
 use mathlib.Core.Path.{_≡_, refl, ap, ap₂, sym, subst, _∙_}
 use mathlib.Core.List.{List, [], _∷_, _++_, append-nil}
 use mathlib.Core.Bool.{Bool, true, false, cond}
@@ -18,7 +18,7 @@ use Rattle.protocol.specs.declared.Progress.{Progress}
 use Rattle.protocol.specs.Model.{Answered, Pending, part, long, ended, Fed, feed, atEnd, longest}
 use Rattle.protocol.specs.Feeding.{stretch, keptAll, fed-line, fed-rest}
 use Rattle.protocol.specs.Rows.{pendingOf}
-use Rattle.protocol.specs.Writing.{Took, largest, endText}
+use Rattle.protocol.specs.Promises.{Took, largest, endText}
 
 module _ (f : Farm) (r : Rest) (block : List ℕ) (from : ℕ) (entry : List ℕ) where
   -- what the bytes up to a place come to

@@ -8,12 +8,12 @@ use lib.ListN.{length, getD, drop}
 use Rattle.shares.specs.declared.Costs.{Costs}
 use Rattle.walk.specs.declared.Chunk.{Chunk}
 use Rattle.planner.specs.declared.Farm.{Farm}
-use Rattle.planner.specs.Calls.{Said, unopened, openSaid, openFarm, offerSaid, offerFarm, accountSaid}
+use Rattle.planner.specs.Calls.{Said, openSaid, openFarm, offerSaid, offerFarm, accountSaid}
 use Rattle.planner.specs.Clock.{moveSaid, moveFarm, moveLines}
 use Rattle.text.specs.Model.{newline}
 use Rattle.reading.specs.declared.Kind.{Kind}
 use Rattle.reading.specs.declared.Kind.the-variants as kind
-use Rattle.reading.specs.Model.{lineKind, readable, numbersOf, onFirst}
+use Rattle.reading.specs.Model.{lineKind, readable, numbersOf}
 use Rattle.printing.specs.declared.Word.{Word}
 use Rattle.printing.specs.declared.Word.the-variants as word
 use Rattle.printing.specs.Model.{lineText}
@@ -104,22 +104,6 @@ longest = 1024
 unfoldable pub answered : Farm → List ℕ → Answered
 answered f bs =
     cond (leb (length bs) longest) (cond (readable bs) (recorded f (lineKind bs) (numbersOf bs)) (unread f)) (unread f)
-
--- ---- A day
-
--- the lines of the input: each ends with a newline, which the last one may lack
-unfoldable pub linesIn : List ℕ → List (List ℕ)
-linesIn [] = []
-linesIn (b ∷ bs) = cond (eqb b newline) ([] ∷ linesIn bs) (onFirst b (linesIn bs))
-
--- their answers, one after the other
-unfoldable pub answers : Farm → List (List ℕ) → List ℕ
-answers f [] = []
-answers f (l ∷ ls) = answered f l .text ++ answers (answered f l .farm) ls
-
--- what is printed for a whole input, from an unopened farm
-abbrev pub dayText : List ℕ → List ℕ
-dayText bs = answers unopened (linesIn bs)
 
 -- ---- Input that comes in blocks
 

@@ -164,3 +164,15 @@ row-farm (part l) e = go (readable l) refl e
         → (5 ≤ cond t (rowWith (lineKind l) (numbersOf l)) (rowWith kind.Unreadable []) .count) × (cond t (rowWith (lineKind l) (numbersOf l)) (rowWith kind.Unreadable []) .count ≤ 38)
     go true e k = let n = five (lineKind l) (length (othersOf (fields l))) (allNumbers (othersOf (fields l))) k e in let m = length-map (othersOf (fields l)) value in (omega arith, omega arith)
     go false e k = absurd (unreadable-farm k)
+
+-- ---- In its turn, and out of it
+
+module _ (f : Farm) (r : Row) where
+  pub row-turn : inTurn (r .kind) (f .opened) ≡ true → byRow f r ≡ calledBy f r
+  unfolding byRow
+  row-turn e = rw e
+
+  -- out of its turn
+  pub row-unread : inTurn (r .kind) (f .opened) ≡ false → byRow f r ≡ unread f
+  unfolding byRow
+  row-unread e = rw e

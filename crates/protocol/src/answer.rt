@@ -5,7 +5,7 @@ ghost use lib.ListN.{length, take};
 ghost use Rattle.planner.specs.Calls.{said, numberOf};
 ghost use Rattle.text.specs.Writing.{WroteWithin};
 ghost use Rattle.protocol.specs.Model.{answerText, refusal, chunkText, chunkTexts};
-ghost use Rattle.protocol.specs.Lines.{lineWith, textOf};
+ghost use Rattle.protocol.specs.AnswerLines.{lineWith, textOf};
 use planner::Answer;
 use planner::Question;
 use printing::Line;

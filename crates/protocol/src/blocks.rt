@@ -6,7 +6,7 @@ ghost use Rattle.planner.specs.Calls.{unopened};
 ghost use Rattle.text.specs.Writing.{WroteWithin};
 ghost use Rattle.protocol.specs.Model.{part};
 ghost use Rattle.protocol.specs.Rows.{pendingOf};
-ghost use Rattle.protocol.specs.Writing.{Took, endText};
+ghost use Rattle.protocol.specs.Promises.{Took, endText};
 use crate::Progress;
 use crate::Rest;
 use crate::Session;

@@ -6,7 +6,7 @@ ghost use Rattle.planner.specs.Calls.{Replies, openSaid, openFarm};
 ghost use Rattle.text.specs.Writing.{WroteWithin};
 ghost use Rattle.protocol.specs.Model.{accountLine, clockLine, costsIn, inTurn};
 ghost use Rattle.protocol.specs.Rows.{FarmRow, calledBy, allowancesIn};
-ghost use Rattle.protocol.specs.Writing.{Steps, largest, replied};
+ghost use Rattle.protocol.specs.Promises.{Steps, largest, replied};
 use crate::Stepped;
 use crate::answer::line_of;
 use crate::answer::put_answer;

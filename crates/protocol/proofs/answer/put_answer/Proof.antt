@@ -4,7 +4,7 @@ use mathlib.Core.Path.{ap, _∙_}
 use Rattle.text.specs.Writing.{within-same}
 use Prim.Native.Nat.{_≤_}
 use native.Mathlib.Omega.{arith}
-use Rattle.protocol.specs.Lines.{line-text, line-count, textOf}
+use Rattle.protocol.specs.AnswerLines.{line-text, line-count, textOf}
 use Rattle.protocol.proofs.answer.put_answer.Statement.{statement}
 use Rattle.protocol.proofs.answer.put_answer.Tie as tie
 

@@ -6,7 +6,7 @@ use native.Mathlib.Omega.{arith}
 use denote.Ref.{now}
 use lib.ListN.{length, take}
 use Rattle.protocol.specs.Model.{chunkTexts}
-use Rattle.protocol.specs.Lines.{chunk-next}
+use Rattle.protocol.specs.AnswerLines.{chunk-next}
 use Rattle.text.specs.Writing.{WroteWithin, wrote-none, wrote-length}
 use Rattle.protocol.proofs.answer.put_chunks.Statement.{statement}
 use Rattle.protocol.proofs.answer.put_chunks.Tie as tie

@@ -6,8 +6,7 @@ use native.Mathlib.Omega.{arith}
 use borrow.Author.Tests.{not-true, not-false}
 use lib.ListN.{length, getD}
 use Rattle.protocol.specs.Model.{ended, unread, accountLine, called}
-use Rattle.protocol.specs.Rows.{FarmRow, pendingOf, byRow, calledBy, rest-row, row-farm}
-use Rattle.protocol.specs.Stepping.{row-turn, row-unread}
+use Rattle.protocol.specs.Rows.{FarmRow, pendingOf, byRow, calledBy, rest-row, row-farm, row-turn, row-unread}
 use Rattle.protocol.specs.Blocks.{Going, going-start, going-took, going-rest, going-line}
 use Rattle.protocol.proofs.blocks.answer_block.Statement.{statement}
 use Rattle.protocol.proofs.blocks.answer_block.Tie as tie

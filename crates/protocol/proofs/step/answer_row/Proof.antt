@@ -3,8 +3,7 @@ use borrow.Author.Needs.{needs}
 use mathlib.Core.Path.{refl, sym}
 use Rattle.printing.specs.declared.Word.the-variants as word
 use Rattle.protocol.specs.Model.{farmLine, jobLine, accountLine, called}
-use Rattle.protocol.specs.Writing.{steps-as}
-use Rattle.protocol.specs.Stepping.{replied-is, steps-line}
+use Rattle.protocol.specs.CallSteps.{steps-as, replied-is, steps-line}
 use Rattle.protocol.proofs.step.answer_row.Statement.{statement}
 use Rattle.protocol.proofs.step.answer_row.Tie as tie
 

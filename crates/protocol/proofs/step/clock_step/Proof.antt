@@ -5,8 +5,8 @@ use Prim.Native.Nat.{_+_, _*_, _≤_}
 use native.Mathlib.Omega.{arith}
 use lib.ListN.{length}
 use Rattle.printing.specs.declared.Word.the-variants as word
-use Rattle.protocol.specs.Lines.{chunksBefore, line-count}
-use Rattle.protocol.specs.Stepping.{clock-few, clock-steps}
+use Rattle.protocol.specs.AnswerLines.{chunksBefore, line-count}
+use Rattle.protocol.specs.CallSteps.{clock-few, clock-steps}
 use Rattle.protocol.proofs.step.clock_step.Statement.{statement}
 use Rattle.protocol.proofs.step.clock_step.Tie as tie
 

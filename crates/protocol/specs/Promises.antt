@@ -1,5 +1,5 @@
--- What the functions promise of the memory that answers are written to.
-use mathlib.Core.Path.{_≡_, sym, subst}
+-- What the functions promise: a line's step, a block, the end of the input.
+use mathlib.Core.Path.{_≡_}
 use mathlib.Core.List.{List, []}
 use mathlib.Core.Bool.{cond}
 use Prim.Native.Nat.{ℕ, _+_, _≤_, _<_}
@@ -45,7 +45,3 @@ pub record Took (s : Session) (block : List ℕ) (from : ℕ) (entry exit : List
 -- the end of the input; nothing is written where the room may not hold the answer
 abbrev pub endText : Session → ℕ → List ℕ
 endText s room = cond (leb largest room) (atEnd (s .farm) (pendingOf (s .rest))) []
-
--- a step in other words
-pub steps-as : {x y : Answered} {at : ℕ} {entry exit : List ℕ} {r : Stepped} → x ≡ y → Steps y at entry exit r → Steps x at entry exit r
-steps-as {at = at} {entry = entry} {exit = exit} {r = r} e s = subst (λ (z : Answered). Steps z at entry exit r) (sym e) s

@@ -1,4 +1,4 @@
--- The line of an answer, as the crate printing takes it, and the chunk lines of a clock move.
+-- The line of an answer, as the crate printing takes it, and the chunk lines of a clock move, for src/answer.rt.
 use mathlib.Core.Path.{_≡_, refl, ap, sym, _∙_}
 use mathlib.Core.List.{List, [], _∷_, _++_, append-nil, append-assoc}
 use mathlib.Core.Bool.{Bool, true, false, cond}

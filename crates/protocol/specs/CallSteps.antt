@@ -1,7 +1,6 @@
--- One line's answer, call by call.
-use mathlib.Core.Path.{_≡_, ap, ap₂, _∙_}
+-- The step of a call: its answer and the farm after it, for src/step.rt.
+use mathlib.Core.Path.{_≡_, ap, ap₂, sym, subst, _∙_}
 use mathlib.Core.List.{List, _++_}
-use mathlib.Core.Bool.{true, false}
 use Prim.Native.Nat.{ℕ, _+_, _*_, _≤_}
 use native.Mathlib.Omega.{arith}
 use lib.ListN.{length, take}
@@ -13,29 +12,19 @@ use Rattle.planner.specs.declared.Timetable.{Timetable}
 use Rattle.planner.specs.Calls.{Said, said, Replies}
 use Rattle.planner.specs.Clock.{moveSaid, moveFarm, moveMemory, moveLines}
 use Rattle.text.specs.Writing.{WroteWithin, wrote-same, wrote-join}
-use Rattle.reading.specs.declared.Row.{Row}
 use Rattle.printing.specs.declared.Line.{Line}
 use Rattle.printing.specs.declared.Word.{Word}
 use Rattle.printing.specs.declared.Word.the-variants as word
 use Rattle.protocol.specs.declared.Stepped.{Stepped}
-use Rattle.protocol.specs.Model.{Answered, unread, answerText, chunkTexts, lent, inTurn, clockLine}
-use Rattle.protocol.specs.Rows.{byRow, calledBy}
-use Rattle.protocol.specs.Writing.{Steps, largest, replied}
-use Rattle.protocol.specs.Lines.{lineWith, textOf, line-text, chunksBefore, lines-said, few-lines, lines-front}
+use Rattle.protocol.specs.Model.{Answered, answerText, chunkTexts, lent, clockLine}
+use Rattle.protocol.specs.Promises.{Steps, largest, replied}
+use Rattle.protocol.specs.AnswerLines.{lineWith, textOf, line-text, chunksBefore, lines-said, few-lines, lines-front}
 
--- ---- Which call a row is
+-- ---- A reply's step
 
-module _ (f : Farm) (r : Row) where
-  pub row-turn : inTurn (r .kind) (f .opened) ≡ true → byRow f r ≡ calledBy f r
-  unfolding byRow
-  row-turn e = rw e
-
-  -- out of its turn
-  pub row-unread : inTurn (r .kind) (f .opened) ≡ false → byRow f r ≡ unread f
-  unfolding byRow
-  row-unread e = rw e
-
--- ---- What a step hands back
+-- a step in other words
+pub steps-as : {x y : Answered} {at : ℕ} {entry exit : List ℕ} {r : Stepped} → x ≡ y → Steps y at entry exit r → Steps x at entry exit r
+steps-as {at = at} {entry = entry} {exit = exit} {r = r} e s = subst (λ (z : Answered). Steps z at entry exit r) (sym e) s
 
 -- a reply that says so
 pub replied-is : (w : Word) (r : Reply) (s : Said) (f : Farm) → Replies r s f → replied w r ≡ record { farm = f; text = answerText w s }
