@@ -12,7 +12,7 @@ use Rattle.protocol.specs.declared.Progress.{Progress}
 use Rattle.protocol.specs.Model.{Pending, Fed, behind, feed}
 use Rattle.protocol.specs.Feeding.{feed-append, stretch, stretch-join}
 use Rattle.protocol.specs.Rows.{pendingOf}
-use Rattle.protocol.specs.Writing.{Took, fedTo}
+use Rattle.protocol.specs.Promises.{Took, fedTo}
 use Rattle.feeding.specs.declared.Sent.{Sent}
 
 -- the day t is what feeding these bytes to the day s comes to

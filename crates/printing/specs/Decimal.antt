@@ -9,16 +9,9 @@ use lib.Dec.{leb}
 use borrow.Author.Tests.{leb-true, leb-false}
 use lib.ListN.{length, getD, length-append, List·getD-append}
 use Rattle.lists.specs.Laws.{All, all-join}
-use Rattle.printing.specs.Model.{digits, reached, powers, decimal, lineText, wordOf, tabbed}
-
--- the number that these digits say after the number a
-unfoldable pub valueFrom : ℕ → List ℕ → ℕ
-valueFrom a [] = a
-valueFrom a (d ∷ ds) = valueFrom (a * 10 + (d - 48)) ds
-
--- the number that digits say in base ten
-unfoldable pub valueOf : List ℕ → ℕ
-valueOf ds = valueFrom 0 ds
+use Rattle.text.specs.Model.{valueFrom, value}
+use Rattle.printing.specs.declared.Word.the-variants as word
+use Rattle.printing.specs.Model.{digits, reached, powers, decimal, lineText, tabbed}
 
 value-last : (a : ℕ) (ds : List ℕ) (d : ℕ) → valueFrom a (ds ++ d ∷ []) ≡ valueFrom a ds * 10 + (d - 48)
 unfolding valueFrom
@@ -112,8 +105,8 @@ decimal-holds n h =
     subst (λ (m : ℕ). n < 10 ^ m) e r
 
 -- The decimal of a number below 2⁶⁴ says that number.
-pub decimal-value : (n : ℕ) → n < 2 ^ 64 → valueOf (decimal n) ≡ n
-unfolding decimal valueOf
+pub decimal-value : (n : ℕ) → n < 2 ^ 64 → value (decimal n) ≡ n
+unfolding decimal
 decimal-value n h = digits-value (suc (reached n powers)) n (decimal-holds n h)
 
 -- A decimal has at least one digit.
@@ -145,6 +138,6 @@ decimal-leads n p h =
     digits-lead (reached n powers) n (subst (λ (m : ℕ). 10 ^ m ≤ n) e r) (decimal-holds n h)
 
 -- The line of the word `yes` and the numbers 1, 0, 18 and 2, with a tab before each number and a newline at the end.
-pub example-line : lineText 2 (1 ∷ 0 ∷ 18 ∷ 2 ∷ []) ≡ 121 ∷ 101 ∷ 115 ∷ 9 ∷ 49 ∷ 9 ∷ 48 ∷ 9 ∷ 49 ∷ 56 ∷ 9 ∷ 50 ∷ 10 ∷ []
-unfolding lineText wordOf tabbed decimal digits reached
+pub example-line : lineText word.Yes (1 ∷ 0 ∷ 18 ∷ 2 ∷ []) ≡ 121 ∷ 101 ∷ 115 ∷ 9 ∷ 49 ∷ 9 ∷ 48 ∷ 9 ∷ 49 ∷ 56 ∷ 9 ∷ 50 ∷ 10 ∷ []
+unfolding lineText tabbed decimal digits reached
 example-line = refl

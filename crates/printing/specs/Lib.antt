@@ -1,4 +1,4 @@
 -- What a reader must believe is Model; the other files show what follows from it.
 pub mod Model
 pub mod Decimal
-pub mod Puts
+pub mod Loops

@@ -3,13 +3,10 @@
 use Prim.Native.Nat.{ℕ, zero, suc, _+_, _/_, _%_}
 use mathlib.Core.List.{List, [], _∷_, _++_}
 use mathlib.Core.Bool.{cond}
-use lib.Dec.{leb, eqb}
-
-abbrev pub tab : ℕ
-tab = 9
-
-abbrev pub newline : ℕ
-newline = 10
+use lib.Dec.{leb}
+use Rattle.text.specs.Model.{tab, newline}
+use Rattle.printing.specs.declared.Word.{Word}
+use Rattle.printing.specs.declared.Word.the-variants as word
 
 -- ---- Numbers
 
@@ -36,15 +33,14 @@ decimal n = digits (suc (reached n powers)) n
 
 -- ---- Words
 
--- open, yes, chunk, clock, account and no are words 1 to 6
-unfoldable pub wordOf : ℕ → List ℕ
-wordOf k =
-    cond (eqb k 1) (111 ∷ 112 ∷ 101 ∷ 110 ∷ [])
-    (cond (eqb k 2) (121 ∷ 101 ∷ 115 ∷ [])
-    (cond (eqb k 3) (99 ∷ 104 ∷ 117 ∷ 110 ∷ 107 ∷ [])
-    (cond (eqb k 4) (99 ∷ 108 ∷ 111 ∷ 99 ∷ 107 ∷ [])
-    (cond (eqb k 5) (97 ∷ 99 ∷ 99 ∷ 111 ∷ 117 ∷ 110 ∷ 116 ∷ [])
-    (cond (eqb k 6) (110 ∷ 111 ∷ []) [])))))
+-- the bytes of each word: open, yes, chunk, clock, account and no
+abbrev pub wordOf : Word → List ℕ
+wordOf word.Open = 111 ∷ 112 ∷ 101 ∷ 110 ∷ []
+wordOf word.Yes = 121 ∷ 101 ∷ 115 ∷ []
+wordOf word.Chunk = 99 ∷ 104 ∷ 117 ∷ 110 ∷ 107 ∷ []
+wordOf word.Clock = 99 ∷ 108 ∷ 111 ∷ 99 ∷ 107 ∷ []
+wordOf word.Account = 97 ∷ 99 ∷ 99 ∷ 111 ∷ 117 ∷ 110 ∷ 116 ∷ []
+wordOf word.No = 110 ∷ 111 ∷ []
 
 -- ---- A line
 
@@ -54,5 +50,5 @@ tabbed [] = []
 tabbed (n ∷ ns) = (tab ∷ decimal n) ++ tabbed ns
 
 -- a word and its numbers, with the newline
-unfoldable pub lineText : ℕ → List ℕ → List ℕ
-lineText k ns = wordOf k ++ (tabbed ns ++ newline ∷ [])
+unfoldable pub lineText : Word → List ℕ → List ℕ
+lineText w ns = wordOf w ++ (tabbed ns ++ newline ∷ [])

@@ -1,14 +1,25 @@
 // Text out: the line of an answer. It knows words and numbers, and no farm. What each function means is in specs/Model.antt.
 ghost use mathlib.Core.Path.{_≡_};
-ghost use mathlib.Core.List.{_∷_, _++_};
+ghost use mathlib.Core.List.{_∷_};
 ghost use Prim.Native.Nat.{suc, _+_, _*_, _≤_};
-ghost use lib.ListN.{length, take, drop};
-ghost use Rattle.printing.specs.Model.{digits, reached, powers, decimal, wordOf, tab, tabbed, lineText};
-ghost use Rattle.printing.specs.Puts.{Puts};
+ghost use lib.ListN.{length, take};
+ghost use Rattle.text.specs.Model.{tab};
+ghost use Rattle.text.specs.Writing.{Wrote, WroteWithin};
+ghost use Rattle.printing.specs.Model.{digits, reached, powers, decimal, wordOf, tabbed, lineText};
 
-// An answer's line: the word (1 to 6 for open, yes, chunk, clock, account and no) and the first `count` numbers.
+// The first word of a line.
+pub enum Word {
+    Open,
+    Yes,
+    Chunk,
+    Clock,
+    Account,
+    No,
+}
+
+// An answer's line: its word and the first `count` numbers.
 pub struct Line {
-    pub word: u64,
+    pub word: Word,
     pub count: usize,
     pub numbers: [u64; 7],
 }
@@ -39,7 +50,7 @@ const POWERS: [u64; 19] = [
 // Writes a text at place `at` and answers the place behind it, as each function below does.
 fn put_text(out: &mut [u8], at: usize, text: &[u8]) -> usize
     requires { ⌜ at + length (now text) ≤ length (now out) ⌝ }
-    ensures { λ r. ⌜ Puts (now (text .entry)) (now (out .entry)) at (now (out .exit)) r ⌝ }
+    ensures { λ r. ⌜ Wrote (now (text .entry)) at (now (out .entry)) (now (out .exit)) r ⌝ }
 {
     let mut i = 0;
     while i < text.len() {
@@ -49,30 +60,51 @@ fn put_text(out: &mut [u8], at: usize, text: &[u8]) -> usize
     at + i
 }
 
-// A word by its number; another number writes nothing.
-fn put_word(out: &mut [u8], at: usize, word: u64) -> usize
-    requires { ⌜ at + 7 ≤ length (now out) ⌝ }
-    ensures { λ r. ⌜ Puts (wordOf word) (now (out .entry)) at (now (out .exit)) r × (r ≤ at + 7) ⌝ }
+// The bytes of a word: the first `count`.
+struct Spelling {
+    count: usize,
+    bytes: [u8; 7],
+}
+
+fn spelling_of(word: Word) -> Spelling
+    ensures { λ r. ⌜ (r .count ≤ 7) × (length (r .bytes) ≡ 7) × (take (r .count) (r .bytes) ≡ wordOf word) ⌝ }
 {
-    if word == 1 {
-        return put_text(out, at, b"open");
+    match word {
+        Word::Open => Spelling {
+            count: 4,
+            bytes: *b"open\0\0\0",
+        },
+        Word::Yes => Spelling {
+            count: 3,
+            bytes: *b"yes\0\0\0\0",
+        },
+        Word::Chunk => Spelling {
+            count: 5,
+            bytes: *b"chunk\0\0",
+        },
+        Word::Clock => Spelling {
+            count: 5,
+            bytes: *b"clock\0\0",
+        },
+        Word::Account => Spelling {
+            count: 7,
+            bytes: *b"account",
+        },
+        Word::No => Spelling {
+            count: 2,
+            bytes: *b"no\0\0\0\0\0",
+        },
     }
-    if word == 2 {
-        return put_text(out, at, b"yes");
-    }
-    if word == 3 {
-        return put_text(out, at, b"chunk");
-    }
-    if word == 4 {
-        return put_text(out, at, b"clock");
-    }
-    if word == 5 {
-        return put_text(out, at, b"account");
-    }
-    if word == 6 {
-        return put_text(out, at, b"no");
-    }
-    at
+}
+
+fn put_word(out: &mut [u8], at: usize, word: Word) -> usize
+    requires { ⌜ at + 7 ≤ length (now out) ⌝ }
+    ensures { λ r. ⌜ WroteWithin 7 (wordOf word) at (now (out .entry)) (now (out .exit)) r ⌝ }
+{
+    let spelling = spelling_of(word);
+    let count = spelling.count;
+    let bytes = spelling.bytes;
+    put_text(out, at, &bytes[0..count])
 }
 
 // How many digits a number has.
@@ -92,7 +124,7 @@ fn places(n: u64) -> usize
 // The last k digits of a number, from the last to the first.
 fn put_digits(out: &mut [u8], at: usize, k: usize, n: u64) -> usize
     requires { ⌜ at + k ≤ length (now out) ⌝ }
-    ensures { λ r. ⌜ Puts (digits k n) (now (out .entry)) at (now (out .exit)) r ⌝ }
+    ensures { λ r. ⌜ Wrote (digits k n) at (now (out .entry)) (now (out .exit)) r ⌝ }
 {
     let mut i = k;
     let mut rest = n;
@@ -107,7 +139,7 @@ fn put_digits(out: &mut [u8], at: usize, k: usize, n: u64) -> usize
 // A tab and a number in base ten.
 fn put_number(out: &mut [u8], at: usize, n: u64) -> usize
     requires { ⌜ at + 21 ≤ length (now out) ⌝ }
-    ensures { λ r. ⌜ Puts (tab ∷ decimal n) (now (out .entry)) at (now (out .exit)) r × (r ≤ at + 21) ⌝ }
+    ensures { λ r. ⌜ WroteWithin 21 (tab ∷ decimal n) at (now (out .entry)) (now (out .exit)) r ⌝ }
 {
     let next = put_text(out, at, b"\t");
     let k = places(n);
@@ -117,7 +149,7 @@ fn put_number(out: &mut [u8], at: usize, n: u64) -> usize
 // The first `count` numbers, each behind a tab.
 fn put_numbers(out: &mut [u8], at: usize, numbers: [u64; 7], count: usize) -> usize
     requires { ⌜ (count ≤ 7) × (at + 21 * count ≤ length (now out)) ⌝ }
-    ensures { λ r. ⌜ Puts (tabbed (take count numbers)) (now (out .entry)) at (now (out .exit)) r × (r ≤ at + 21 * count) ⌝ }
+    ensures { λ r. ⌜ WroteWithin (21 * count) (tabbed (take count numbers)) at (now (out .entry)) (now (out .exit)) r ⌝ }
 {
     let mut place = at;
     let mut i = 0;
@@ -131,11 +163,11 @@ fn put_numbers(out: &mut [u8], at: usize, numbers: [u64; 7], count: usize) -> us
 // Writes the line at place `at` and answers the place behind it. A line takes at most 160 bytes.
 pub fn put(out: &mut [u8], at: usize, line: Line) -> usize
     requires { ⌜ (line .count ≤ 7) × (at + 160 ≤ length (now out)) ⌝ }
-    ensures { λ r. ⌜ (r ≡ at + length (lineText (line .word) (take (line .count) (line .numbers)))) × (r ≤ at + 160)
-        × (now (out .exit) ≡ take at (now (out .entry)) ++ (lineText (line .word) (take (line .count) (line .numbers)) ++ drop r (now (out .entry)))) ⌝ }
+    ensures { λ r. ⌜ WroteWithin 160 (lineText (line .word) (take (line .count) (line .numbers))) at (now (out .entry)) (now (out .exit)) r ⌝ }
 {
+    let word = line.word;
     let numbers = line.numbers;
-    let word_end = put_word(out, at, line.word);
+    let word_end = put_word(out, at, word);
     let line_end = put_numbers(out, word_end, numbers, line.count);
     put_text(out, line_end, b"\n")
 }

@@ -1,4 +1,4 @@
--- A block, line by line.
+-- A block, line by line, and the end of the input, for src/blocks.rt.
 use mathlib.Core.Path.{_≡_, refl, ap, ap₂, sym, subst, _∙_}
 use mathlib.Core.List.{List, [], _∷_, _++_, append-nil}
 use mathlib.Core.Bool.{Bool, true, false, cond}
@@ -9,14 +9,16 @@ use lib.Seq.{length-take-le}
 use lib.Dec.{leb}
 use lib.ListN.{length, take, drop}
 use Rattle.planner.specs.declared.Farm.{Farm}
-use Rattle.reading.specs.Model.{newline, before}
+use Rattle.text.specs.Model.{newline}
+use Rattle.text.specs.Writing.{WroteWithin, wrote-none, wrote-same, wrote-join, wrote-length, within-same}
+use Rattle.reading.specs.Model.{before}
 use Rattle.protocol.specs.declared.Rest.{Rest}
 use Rattle.protocol.specs.declared.Session.{Session}
 use Rattle.protocol.specs.declared.Progress.{Progress}
-use Rattle.protocol.specs.Model.{Answered, answered, Pending, part, long, ended, Fed, feed, atEnd, longest}
+use Rattle.protocol.specs.Model.{Answered, Pending, part, long, ended, Fed, feed, atEnd, longest}
 use Rattle.protocol.specs.Feeding.{stretch, keptAll, fed-line, fed-rest}
 use Rattle.protocol.specs.Rows.{pendingOf}
-use Rattle.protocol.specs.Writing.{Wrote, wrote-none, wrote-join, wrote-length, Took, largest, endText}
+use Rattle.protocol.specs.Promises.{Took, largest, endText}
 
 module _ (f : Farm) (r : Rest) (block : List ℕ) (from : ℕ) (entry : List ℕ) where
   -- what the bytes up to a place come to
@@ -29,7 +31,7 @@ module _ (f : Farm) (r : Rest) (block : List ℕ) (from : ℕ) (entry : List ℕ
     pub inside : from ≤ length block → next ≤ length block
     pub farms : upTo next .farm ≡ farm
     pub pending : upTo next .pending ≡ pendingOf rest
-    pub wrote : Wrote (upTo next .text) 0 (length entry) entry out at
+    pub wrote : WroteWithin (length entry) (upTo next .text) 0 entry out at
     pub size : length out ≡ length entry
 
   nothing-yet : upTo from ≡ record { farm = f; pending = pendingOf r; text = [] }
@@ -43,56 +45,58 @@ module _ (f : Farm) (r : Rest) (block : List ℕ) (from : ℕ) (entry : List ℕ
     inside = λ h. h;
     farms = ap (λ (x : Fed). x .farm) nothing-yet;
     pending = ap (λ (x : Fed). x .pending) nothing-yet;
-    wrote = subst (λ (t : List ℕ). Wrote t 0 (length entry) entry entry 0) (sym (ap (λ (x : Fed). x .text) nothing-yet)) (wrote-none 0 (length entry) entry);
+    wrote = record { wrote = wrote-same (sym (ap (λ (x : Fed). x .text) nothing-yet)) (wrote-none 0 entry); within = omega arith };
     size = refl;
   }
 
-  module _ (farm : Farm) (rest : Rest) (next at : ℕ) (out : List ℕ) (g : Going farm rest next at out) where
-    -- the block ends, or there is no room
-    pub going-took : (next < length block → length entry < at + largest) → Took (record { farm = f; rest = r }) block from entry out (record { session = record { farm = farm; rest = rest }; next = next; written = at })
-    going-took h = record {
-      onward = g .onward;
-      inside = g .inside;
-      stops = h;
-      farm = sym (g .farms);
-      pending = sym (g .pending);
-      wrote = g .wrote;
-    }
+module _ {f : Farm} {r : Rest} {block : List ℕ} {from : ℕ} {entry : List ℕ} {farm : Farm} {rest : Rest} {next at : ℕ} {out : List ℕ} (g : Going f r block from entry farm rest next at out) where
+  -- what the bytes so far come to
+  abbrev soFar : Fed
+  soFar = upTo f r block from entry next
 
-    module _ (end : ℕ) (line : Rest) (e : end ≡ next + before newline (drop next block)) (l : pendingOf line ≡ keptAll (pendingOf rest) (stretch next end block)) where
-      kept-line : keptAll (upTo next .pending) (stretch next end block) ≡ pendingOf line
-      kept-line = ap (λ (p : Pending). keptAll p (stretch next end block)) (g .pending) ∙ sym l
+  -- the block ends, or there is no room
+  pub going-took : (next < length block → length entry < at + largest) → Took (record { farm = f; rest = r }) block from entry out (record { session = record { farm = farm; rest = rest }; next = next; written = at })
+  going-took h = record {
+    onward = g .onward;
+    inside = g .inside;
+    stops = h;
+    farm = sym (g .farms);
+    pending = sym (g .pending);
+    wrote = g .wrote;
+  }
 
-      -- no newline is left
-      pub going-rest : end ≡ length block → Took (record { farm = f; rest = r }) block from entry out (record { session = record { farm = farm; rest = line }; next = end; written = at })
-      going-rest h =
-          let x = fed-rest f (pendingOf r) block from next end (upTo next) (g .onward) e refl h in
-          record {
-            onward = omega (arith, g .onward);
-            inside = λ k. omega arith;
-            stops = λ k. absurd (omega arith);
-            farm = sym (ap (λ (y : Fed). y .farm) x ∙ g .farms);
-            pending = sym (ap (λ (y : Fed). y .pending) x ∙ kept-line);
-            wrote = subst (λ (t : List ℕ). Wrote t 0 (length entry) entry out at) (sym (ap (λ (y : Fed). y .text) x ∙ append-nil (upTo next .text))) (g .wrote);
-          }
+  module _ {end : ℕ} (line : Rest) (e : end ≡ next + before newline (drop next block)) (l : pendingOf line ≡ keptAll (pendingOf rest) (stretch next end block)) where
+    kept-line : keptAll (soFar .pending) (stretch next end block) ≡ pendingOf line
+    kept-line = ap (λ (p : Pending). keptAll p (stretch next end block)) (g .pending) ∙ sym l
 
-      -- a line ends and is answered
-      pub going-line : (x : Answered) (later : Farm) (empty : Rest) (most place : ℕ) (back : List ℕ) → end < length block → ended farm (pendingOf line) ≡ x → later ≡ x .farm → pendingOf empty ≡ part []
-          → Wrote (x .text) at most out back place → place ≤ length entry → Going later empty (end + 1) place back
-      going-line x later empty most place back h a d z w k =
-          let y = fed-line f (pendingOf r) block from next end (upTo next) (g .onward) e refl h in
-          let b : ended (upTo next .farm) (keptAll (upTo next .pending) (stretch next end block)) ≡ x = ap₂ ended (g .farms) kept-line ∙ a in
-          let room : at ≤ length entry = omega (arith, g .wrote .within) in
-          let all : Wrote (upTo next .text ++ x .text) 0 (length entry) entry back place =
-          wrote-join (upTo next .text) 0 (length entry) entry out at (g .wrote) room (x .text) most (length entry) back place w (omega arith) in
-          record {
-            onward = omega (arith, g .onward);
-            inside = λ q. omega arith;
-            farms = ap (λ (u : Fed). u .farm) y ∙ ap (λ (u : Answered). u .farm) b ∙ sym d;
-            pending = ap (λ (u : Fed). u .pending) y ∙ sym z;
-            wrote = subst (λ (t : List ℕ). Wrote t 0 (length entry) entry back place) (sym (ap (λ (u : Fed). u .text) y ∙ ap (λ (u : Answered). upTo next .text ++ u .text) b)) all;
-            size = wrote-length (upTo next .text ++ x .text) 0 (length entry) entry back place all k;
-          }
+    -- no newline is left
+    pub going-rest : end ≡ length block → Took (record { farm = f; rest = r }) block from entry out (record { session = record { farm = farm; rest = line }; next = end; written = at })
+    going-rest h =
+        let x = fed-rest f (pendingOf r) block from next end soFar (g .onward) e refl h in
+        record {
+          onward = omega (arith, g .onward);
+          inside = λ k. omega arith;
+          stops = λ k. absurd (omega arith);
+          farm = sym (ap (λ (y : Fed). y .farm) x ∙ g .farms);
+          pending = sym (ap (λ (y : Fed). y .pending) x ∙ kept-line);
+          wrote = within-same (sym (ap (λ (y : Fed). y .text) x ∙ append-nil (soFar .text))) (g .wrote);
+        }
+
+    -- a line ends and is answered
+    pub going-line : {x : Answered} {later : Farm} {empty : Rest} {most place : ℕ} {back : List ℕ} → end < length block → ended farm (pendingOf line) ≡ x → later ≡ x .farm → pendingOf empty ≡ part []
+        → WroteWithin most (x .text) at out back place → place ≤ length entry → Going f r block from entry later empty (end + 1) place back
+    going-line h a d z w k =
+        let y = fed-line f (pendingOf r) block from next end soFar (g .onward) e refl h in
+        let b = ap₂ ended (g .farms) kept-line ∙ a in
+        let all = wrote-join (g .wrote .wrote) (omega (arith, g .wrote .within)) (w .wrote) in
+        record {
+          onward = omega (arith, g .onward);
+          inside = λ q. omega arith;
+          farms = ap (λ (u : Fed). u .farm) y ∙ ap (λ (u : Answered). u .farm) b ∙ sym d;
+          pending = ap (λ (u : Fed). u .pending) y ∙ sym z;
+          wrote = record { wrote = wrote-same (sym (ap (λ (u : Fed). u .text) y ∙ ap (λ (u : Answered). soFar .text ++ u .text) b)) all; within = omega arith };
+          size = wrote-length all k;
+        }
 
 -- ---- The end of the input
 
@@ -123,14 +127,14 @@ end-line s room h k n = rw (le-leb largest room h) (go (leb (s .rest .fill) long
 
 -- A newline ends the line that is pending.
 pub end-took : (s : Session) (entry exit : List ℕ) (r : Progress) → Took s (newline ∷ []) 0 entry exit r → largest ≤ length entry
-    → Wrote (ended (s .farm) (pendingOf (s .rest)) .text) 0 (length entry) entry exit (r .written)
+    → WroteWithin (length entry) (ended (s .farm) (pendingOf (s .rest)) .text) 0 entry exit (r .written)
 unfolding feed
 end-took s entry exit r t h = go (r .next) refl
   where
-    at : (n : ℕ) → r .next ≡ n → Wrote (feed (s .farm) (pendingOf (s .rest)) (stretch 0 n (newline ∷ [])) .text) 0 (length entry) entry exit (r .written)
-    at n e = subst (λ (k : ℕ). Wrote (feed (s .farm) (pendingOf (s .rest)) (stretch 0 k (newline ∷ [])) .text) 0 (length entry) entry exit (r .written)) e (t .wrote)
+    at : (n : ℕ) → r .next ≡ n → WroteWithin (length entry) (feed (s .farm) (pendingOf (s .rest)) (stretch 0 n (newline ∷ [])) .text) 0 entry exit (r .written)
+    at n e = subst (λ (k : ℕ). WroteWithin (length entry) (feed (s .farm) (pendingOf (s .rest)) (stretch 0 k (newline ∷ [])) .text) 0 entry exit (r .written)) e (t .wrote)
 
-    go : (n : ℕ) → r .next ≡ n → Wrote (ended (s .farm) (pendingOf (s .rest)) .text) 0 (length entry) entry exit (r .written)
-    go zero e = absurd (omega (arith, at 0 e .place, t .stops (omega arith)))
-    go (suc zero) e = subst (λ (l : List ℕ). Wrote l 0 (length entry) entry exit (r .written)) (append-nil (ended (s .farm) (pendingOf (s .rest)) .text)) (at 1 e)
+    go : (n : ℕ) → r .next ≡ n → WroteWithin (length entry) (ended (s .farm) (pendingOf (s .rest)) .text) 0 entry exit (r .written)
+    go zero e = absurd (omega (arith, at 0 e .wrote .place, t .stops (omega arith)))
+    go (suc zero) e = within-same (append-nil (ended (s .farm) (pendingOf (s .rest)) .text)) (at 1 e)
     go (suc (suc n)) e = absurd (omega (arith, t .inside (omega arith)))

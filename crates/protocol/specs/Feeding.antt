@@ -1,16 +1,16 @@
--- Input that comes in blocks: where a block ends does not matter, and a whole day's text is the answers of its lines.
+-- Bytes fed to a day: where a block ends does not matter, and the bytes up to a newline are a line.
 use mathlib.Core.Path.{_≡_, refl, ap, sym, _∙_}
 use mathlib.Core.List.{List, [], _∷_, _++_, append-nil, append-assoc}
 use mathlib.Core.Bool.{Bool, true, false, cond}
 use Prim.Native.Nat.{ℕ, suc, _+_, _-_, _≤_, _<_}
 use native.Mathlib.Omega.{arith}
-use borrow.Author.Tests.{ltb-true, lt-ltb}
-use lib.Dec.{ltb, eqb}
-use lib.ListN.{length, take, drop, length-append, length-drop}
+use lib.Dec.{eqb}
+use lib.ListN.{length, take, drop, length-drop}
 use lib.Seq.{take-add, drop-drop, take-all}
 use Rattle.planner.specs.declared.Farm.{Farm}
-use Rattle.reading.specs.Model.{newline, before}
-use Rattle.protocol.specs.Model.{Pending, part, long, kept, ended, Fed, behind, feed, longest}
+use Rattle.text.specs.Model.{newline}
+use Rattle.reading.specs.Model.{before}
+use Rattle.protocol.specs.Model.{Pending, part, kept, ended, Fed, behind, feed}
 
 -- ---- Blocks
 
@@ -108,26 +108,3 @@ module _ (f : Farm) (p : Pending) (block : List ℕ) (from i end : ℕ) (x : Fed
       ∙ feed-append f p (stretch from i block) (stretch i end block)
       ∙ ap (onward (stretch i end block)) r
       ∙ ap (behind (x .text)) (rw whole (feed-rest (x .farm) (x .pending) (drop i block) all))
-
--- ---- What is kept of a line
-
-pub kept-long : (xs : List ℕ) → keptAll long xs ≡ long
-unfolding keptAll
-kept-long [] = refl
-kept-long (b ∷ xs) = kept-long xs
-
-pub kept-fits : (l xs : List ℕ) → length l + length xs ≤ longest → keptAll (part l) xs ≡ part (l ++ xs)
-unfolding keptAll
-kept-fits l [] h = ap part (sym (append-nil l))
-kept-fits l (b ∷ xs) h =
-    rw (lt-ltb (length l) longest (omega arith)) (kept-fits (l ++ b ∷ []) xs (omega (arith, length-append l (b ∷ []))) ∙ ap part (append-assoc l (b ∷ []) xs))
-
-pub kept-over : (l xs : List ℕ) → length l ≤ longest → longest < length l + length xs → keptAll (part l) xs ≡ long
-unfolding keptAll
-kept-over l [] h k = absurd (omega arith)
-kept-over l (b ∷ xs) h k = go (ltb (length l) longest) refl (kept-over (l ++ b ∷ []) xs)
-  where
-    go : (t : Bool) → ltb (length l) longest ≡ t → (length (l ++ b ∷ []) ≤ longest → longest < length (l ++ b ∷ []) + length xs → keptAll (part (l ++ b ∷ [])) xs ≡ long)
-        → keptAll (cond t (part (l ++ b ∷ [])) long) xs ≡ long
-    go true e r = r (omega (arith, length-append l (b ∷ []), ltb-true (length l) longest e)) (omega (arith, length-append l (b ∷ [])))
-    go false e r = kept-long xs

@@ -2,49 +2,35 @@
 -- Everything here is a definition; nothing is assumed. What a line's fields are is in the crate reading, how an answer is spelt in the crate printing.
 use Prim.Native.Nat.{ℕ}
 use mathlib.Core.List.{List, [], _∷_, _++_}
-use mathlib.Core.Bool.{cond}
+use mathlib.Core.Bool.{Bool, false, cond, not}
 use lib.Dec.{leb, ltb, eqb}
 use lib.ListN.{length, getD, drop}
 use Rattle.shares.specs.declared.Costs.{Costs}
 use Rattle.walk.specs.declared.Chunk.{Chunk}
 use Rattle.planner.specs.declared.Farm.{Farm}
-use Rattle.planner.specs.Calls.{Said, unopened, openSaid, openFarm, offerSaid, offerFarm, accountSaid}
-use Rattle.planner.specs.Clock.{issued, moveAsked, moveSaid, moveFarm}
-use Rattle.reading.specs.Model.{newline, fields, firstOf, kindOf, readable, numbersOf, onFirst}
+use Rattle.planner.specs.Calls.{Said, openSaid, openFarm, offerSaid, offerFarm, accountSaid}
+use Rattle.planner.specs.Clock.{moveSaid, moveFarm, moveLines}
+use Rattle.text.specs.Model.{newline}
+use Rattle.reading.specs.declared.Kind.{Kind}
+use Rattle.reading.specs.declared.Kind.the-variants as kind
+use Rattle.reading.specs.Model.{lineKind, readable, numbersOf}
+use Rattle.printing.specs.declared.Word.{Word}
+use Rattle.printing.specs.declared.Word.the-variants as word
 use Rattle.printing.specs.Model.{lineText}
 
 -- ---- What is printed
 
--- the words of the answers, as the crate printing numbers them
-abbrev pub openWord : ℕ
-openWord = 1
-
-abbrev pub yesWord : ℕ
-yesWord = 2
-
-abbrev pub chunkWord : ℕ
-chunkWord = 3
-
-abbrev pub clockWord : ℕ
-clockWord = 4
-
-abbrev pub accountWord : ℕ
-accountWord = 5
-
-abbrev pub noWord : ℕ
-noWord = 6
-
 -- `no` and the number of the question
 abbrev pub refusal : ℕ → List ℕ
-refusal n = lineText noWord (n ∷ [])
+refusal n = lineText word.No (n ∷ [])
 
 -- an answer: its word and values where all questions were answered yes
-unfoldable pub answerText : ℕ → Said → List ℕ
+unfoldable pub answerText : Word → Said → List ℕ
 answerText w s = cond (eqb (s .number) 0) (lineText w (s .values)) (refusal (s .number))
 
 -- `chunk` with the record's seven fields
 abbrev pub chunkText : Chunk → List ℕ
-chunkText x = lineText chunkWord (x .job ∷ x .show ∷ x .node ∷ x .units ∷ x .start ∷ x .sent ∷ x .finish ∷ [])
+chunkText x = lineText word.Chunk (x .job ∷ x .show ∷ x .node ∷ x .units ∷ x .start ∷ x .sent ∷ x .finish ∷ [])
 
 unfoldable pub chunkTexts : List Chunk → List ℕ
 chunkTexts [] = []
@@ -65,41 +51,50 @@ unread f = record { farm = f; text = refusal 11 }
 abbrev pub costsIn : List ℕ → Costs
 costsIn ns = record { send = getD ns 1 0; compute = getD ns 2 0; linksetup = getD ns 3 0; nodesetup = getD ns 4 0 }
 
-unfoldable pub farmLine : List ℕ → Answered
-farmLine ns = record {
-  farm = openFarm (getD ns 0 0) (costsIn ns) (drop 5 ns);
-  text = answerText openWord (openSaid (getD ns 0 0) (costsIn ns) (drop 5 ns));
+unfoldable pub farmLine : List ℕ → List ℕ → Answered
+farmLine ns al = record {
+  farm = openFarm (getD ns 0 0) (costsIn ns) al;
+  text = answerText word.Open (openSaid (getD ns 0 0) (costsIn ns) al);
 }
 
 -- `job` show size deadline
 unfoldable pub jobLine : Farm → List ℕ → Answered
 jobLine f ns = record {
   farm = offerFarm f (getD ns 0 0) (getD ns 1 0) (getD ns 2 0);
-  text = answerText yesWord (offerSaid f (getD ns 0 0) (getD ns 1 0) (getD ns 2 0));
+  text = answerText word.Yes (offerSaid f (getD ns 0 0) (getD ns 1 0) (getD ns 2 0));
 }
 
 -- the program lends 1,024 chunk records to a clock move
 abbrev pub lent : ℕ
 lent = 1024
 
--- the chunks that a move to t issues; none where it is refused
-unfoldable pub moveLines : Farm → ℕ → List Chunk
-moveLines f t = cond (eqb (moveAsked f t lent) 0) (issued f t) []
-
 -- `clock` time: its `chunk` lines first, then its `clock` line
 unfoldable pub clockLine : Farm → ℕ → Answered
-clockLine f t = record { farm = moveFarm f t lent; text = chunkTexts (moveLines f t) ++ answerText clockWord (moveSaid f t lent) }
+clockLine f t = record { farm = moveFarm f t lent; text = chunkTexts (moveLines f t lent) ++ answerText word.Clock (moveSaid f t lent) }
 
 -- `account` show
 unfoldable pub accountLine : Farm → ℕ → Answered
-accountLine f s = record { farm = f; text = answerText accountWord (accountSaid f s) }
+accountLine f s = record { farm = f; text = answerText word.Account (accountSaid f s) }
 
--- a line of kind k (farm, job, clock and account are 1 to 4) and its numbers: `farm` before an opened farm, the others after it
-unfoldable pub recorded : Farm → ℕ → List ℕ → Answered
-recorded f k ns =
-    cond (f .opened)
-    (cond (eqb k 2) (jobLine f ns) (cond (eqb k 3) (clockLine f (getD ns 0 0)) (cond (eqb k 4) (accountLine f (getD ns 0 0)) (unread f))))
-    (cond (eqb k 1) (farmLine ns) (unread f))
+-- a line of a kind is in its turn: `farm` before an opened farm, the others after it
+abbrev pub inTurn : Kind → Bool → Bool
+inTurn kind.Farm opened = not opened
+inTurn kind.Job opened = opened
+inTurn kind.Clock opened = opened
+inTurn kind.Account opened = opened
+inTurn kind.Unreadable opened = false
+
+-- the call that a line in its turn is, by its kind, its numbers and a farm's allowances
+unfoldable pub called : Farm → Kind → List ℕ → List ℕ → Answered
+called f kind.Farm ns al = farmLine ns al
+called f kind.Job ns al = jobLine f ns
+called f kind.Clock ns al = clockLine f (getD ns 0 0)
+called f kind.Account ns al = accountLine f (getD ns 0 0)
+called f kind.Unreadable ns al = unread f
+
+-- a line of a kind and its numbers
+unfoldable pub recorded : Farm → Kind → List ℕ → Answered
+recorded f k ns = cond (inTurn k (f .opened)) (called f k ns (drop 5 ns)) (unread f)
 
 -- at most 1,024 bytes before the newline
 abbrev pub longest : ℕ
@@ -108,23 +103,7 @@ longest = 1024
 -- a line: a longer one, another shape and an empty one cannot be read
 unfoldable pub answered : Farm → List ℕ → Answered
 answered f bs =
-    cond (leb (length bs) longest) (cond (readable bs) (recorded f (kindOf (firstOf (fields bs))) (numbersOf bs)) (unread f)) (unread f)
-
--- ---- A day
-
--- the lines of the input: each ends with a newline, which the last one may lack
-unfoldable pub linesIn : List ℕ → List (List ℕ)
-linesIn [] = []
-linesIn (b ∷ bs) = cond (eqb b newline) ([] ∷ linesIn bs) (onFirst b (linesIn bs))
-
--- their answers, one after the other
-unfoldable pub answers : Farm → List (List ℕ) → List ℕ
-answers f [] = []
-answers f (l ∷ ls) = answered f l .text ++ answers (answered f l .farm) ls
-
--- what is printed for a whole input, from an unopened farm
-abbrev pub dayText : List ℕ → List ℕ
-dayText bs = answers unopened (linesIn bs)
+    cond (leb (length bs) longest) (cond (readable bs) (recorded f (lineKind bs) (numbersOf bs)) (unread f)) (unread f)
 
 -- ---- Input that comes in blocks
 

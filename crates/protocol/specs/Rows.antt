@@ -2,19 +2,22 @@
 use mathlib.Core.Path.{_≡_, refl, ap, sym, _∙_}
 use mathlib.Core.List.{List, [], _∷_, _++_}
 use mathlib.Core.Bool.{Bool, true, false, cond, _&&_, false≢true}
-use Prim.Native.Nat.{ℕ, zero, suc, _+_, _-_, _≤_, _<_, min}
+use Prim.Native.Nat.{ℕ, zero, suc, _-_, _≤_, _<_, min}
 use native.Mathlib.Omega.{arith}
 use borrow.Author.Tests.{leb-true, leb-false, le-leb, lt-leb}
-use lib.Dec.{leb, eqb}
+use lib.Dec.{leb}
 use lib.ListN.{length, getD, take, drop, replicate, length-take, length-map, getD-replicate}
 use lib.Seq.{take-all, take-nil, take-at, length-take-le}
 use Rattle.shares.specs.declared.Costs.{Costs}
 use Rattle.planner.specs.declared.Farm.{Farm}
 use Rattle.planner.specs.Calls.{openSaid, openFarm, showsWithin}
+use Rattle.text.specs.Model.{value}
 use Rattle.reading.specs.declared.Row.{Row}
-use Rattle.reading.specs.Model.{fields, firstOf, othersOf, kindOf, fits, readable, allNumbers, value, numbersOf, rowWith, rowOf}
+use Rattle.reading.specs.declared.Kind.{Kind}
+use Rattle.reading.specs.declared.Kind.the-variants as kind
+use Rattle.reading.specs.Model.{fields, othersOf, fits, lineKind, readable, allNumbers, numbersOf, rowWith, rowOf}
 use Rattle.protocol.specs.declared.Rest.{Rest}
-use Rattle.protocol.specs.Model.{Answered, unread, costsIn, farmLine, jobLine, clockLine, accountLine, recorded, answered, longest, Pending, part, long, ended, answerText, openWord}
+use Rattle.protocol.specs.Model.{Answered, unread, farmLine, jobLine, clockLine, accountLine, inTurn, called, recorded, answered, longest, Pending, part, long, ended}
 
 -- ---- Rows
 
@@ -25,28 +28,23 @@ pendingOf r = cond (leb (r .fill) longest) (part (take (r .fill) (r .bytes))) lo
 -- the row of a line that ends
 abbrev pub rowIn : Pending → Row
 rowIn (part l) = rowOf l
-rowIn long = rowWith 0 []
+rowIn long = rowWith kind.Unreadable []
 
--- an opening by a row
+-- the allowances in a row
 abbrev pub allowancesIn : Row → List ℕ
 allowancesIn r = take (r .count - 5) (drop 5 (r .numbers))
 
-abbrev pub farmRow : Row → Answered
-farmRow r = record {
-  farm = openFarm (getD (r .numbers) 0 0) (costsIn (r .numbers)) (allowancesIn r);
-  text = answerText openWord (openSaid (getD (r .numbers) 0 0) (costsIn (r .numbers)) (allowancesIn r));
-}
+-- the call that a row in its turn is
+abbrev pub calledBy : Farm → Row → Answered
+calledBy f r = called f (r .kind) (r .numbers) (allowancesIn r)
 
 -- the answer of a row
 unfoldable pub byRow : Farm → Row → Answered
-byRow f r =
-    cond (f .opened)
-    (cond (eqb (r .kind) 2) (jobLine f (r .numbers)) (cond (eqb (r .kind) 3) (clockLine f (getD (r .numbers) 0 0)) (cond (eqb (r .kind) 4) (accountLine f (getD (r .numbers) 0 0)) (unread f))))
-    (cond (eqb (r .kind) 1) (farmRow r) (unread f))
+byRow f r = cond (inTurn (r .kind) (f .opened)) (calledBy f r) (unread f)
 
 -- the row of a farm has its nodes and costs
 abbrev pub FarmRow : Row → Type 0
-FarmRow r = r .kind ≡ 1 → (5 ≤ r .count) × (r .count ≤ 38)
+FarmRow r = r .kind ≡ kind.Farm → (5 ≤ r .count) × (r .count ≤ 38)
 
 -- ---- Lists
 
@@ -104,35 +102,38 @@ job-same : (f : Farm) (xs ys : List ℕ) → getD xs 0 0 ≡ getD ys 0 0 → get
 unfolding jobLine
 job-same f xs ys a b c = rw (a, b, c)
 
-row-allowances : (k : ℕ) (ns : List ℕ) → allowancesIn (rowWith k ns) ≡ take 33 (drop 5 ns)
+row-allowances : (k : Kind) (ns : List ℕ) → allowancesIn (rowWith k ns) ≡ take 33 (drop 5 ns)
 row-allowances k ns =
     sym (drop-take 5 (min 38 (length ns)) (keep 38 ns)) ∙ ap (drop 5) (kept-front 38 ns) ∙ drop-take 5 38 ns
 
-farm-same : (k : ℕ) (ns : List ℕ) → farmRow (rowWith k ns) ≡ farmLine ns
+farm-same : (k : Kind) (ns : List ℕ) → farmLine (keep 38 ns) (allowancesIn (rowWith k ns)) ≡ farmLine ns (drop 5 ns)
 unfolding farmLine
 farm-same k ns =
     rw (row-allowances k ns, kept-at 38 ns 0 (omega arith), kept-at 38 ns 1 (omega arith), kept-at 38 ns 2 (omega arith), kept-at 38 ns 3 (omega arith), kept-at 38 ns 4 (omega arith), open-33, open-farm-33)
 
-pub row-recorded : (f : Farm) (k : ℕ) (ns : List ℕ) → byRow f (rowWith k ns) ≡ recorded f k ns
-unfolding byRow recorded
-row-recorded f k ns =
-    rw (farm-same k ns, job-same f (keep 38 ns) ns (kept-at 38 ns 0 (omega arith)) (kept-at 38 ns 1 (omega arith)) (kept-at 38 ns 2 (omega arith)), kept-at 38 ns 0 (omega arith))
+row-called : (f : Farm) (k : Kind) (ns : List ℕ) → calledBy f (rowWith k ns) ≡ called f k ns (drop 5 ns)
+unfolding called
+row-called f kind.Farm ns = farm-same kind.Farm ns
+row-called f kind.Job ns = job-same f (keep 38 ns) ns (kept-at 38 ns 0 (omega arith)) (kept-at 38 ns 1 (omega arith)) (kept-at 38 ns 2 (omega arith))
+row-called f kind.Clock ns = ap (clockLine f) (kept-at 38 ns 0 (omega arith))
+row-called f kind.Account ns = ap (accountLine f) (kept-at 38 ns 0 (omega arith))
+row-called f kind.Unreadable ns = refl
 
-no-row : (f : Farm) → byRow f (rowWith 0 []) ≡ unread f
+pub row-recorded : (f : Farm) (k : Kind) (ns : List ℕ) → byRow f (rowWith k ns) ≡ recorded f k ns
+unfolding byRow recorded
+row-recorded f k ns = rw (row-called f k ns)
+
+no-row : (f : Farm) → byRow f (rowWith kind.Unreadable []) ≡ unread f
 unfolding byRow
-no-row f = go (f .opened)
-  where
-    go : (t : Bool) → cond t (unread f) (unread f) ≡ unread f
-    go true = refl
-    go false = refl
+no-row f = refl
 
 -- A line is answered as its row is.
 pub line-row : (f : Farm) (l : List ℕ) → length l ≤ longest → answered f l ≡ byRow f (rowOf l)
 unfolding answered rowOf
 line-row f l h = rw (le-leb (length l) longest h) (go (readable l))
   where
-    go : (t : Bool) → cond t (recorded f (kindOf (firstOf (fields l))) (numbersOf l)) (unread f) ≡ byRow f (cond t (rowWith (kindOf (firstOf (fields l))) (numbersOf l)) (rowWith 0 []))
-    go true = sym (row-recorded f (kindOf (firstOf (fields l))) (numbersOf l))
+    go : (t : Bool) → cond t (recorded f (lineKind l) (numbersOf l)) (unread f) ≡ byRow f (cond t (rowWith (lineKind l) (numbersOf l)) (rowWith kind.Unreadable []))
+    go true = sym (row-recorded f (lineKind l) (numbersOf l))
     go false = sym (no-row f)
 
 -- So is what the code keeps of a line.
@@ -143,20 +144,35 @@ rest-row f r = go (leb (r .fill) longest) refl
     go true e = line-row f (take (r .fill) (r .bytes)) (omega (arith, leb-true (r .fill) longest e, length-take (r .fill) (r .bytes)))
     go false e = sym (no-row f)
 
-five : (k n : ℕ) (b : Bool) → k ≡ 1 → (fits k n && b) ≡ true → 5 ≤ n
+five : (k : Kind) (n : ℕ) (b : Bool) → k ≡ kind.Farm → (fits k n && b) ≡ true → 5 ≤ n
 five k n b e h = go (leb 5 n) refl (rw e at h)
   where
     go : (t : Bool) → leb 5 n ≡ t → (t && b) ≡ true → 5 ≤ n
     go true q h = leb-true 5 n q
     go false q h = absurd (false≢true h)
 
+unreadable-farm : kind.Unreadable ≡ kind.Farm → ⊥
+unreadable-farm e = let z : _≡_ {A = ℕ} 0 1 = cc in omega arith
+
 -- The row of a line that is a farm has at least its nodes and costs.
 pub row-farm : (p : Pending) → FarmRow (rowIn p)
 unfolding rowOf readable
-row-farm long e = absurd (omega arith)
+row-farm long e = absurd (unreadable-farm e)
 row-farm (part l) e = go (readable l) refl e
   where
-    go : (t : Bool) → readable l ≡ t → cond t (rowWith (kindOf (firstOf (fields l))) (numbersOf l)) (rowWith 0 []) .kind ≡ 1
-        → (5 ≤ cond t (rowWith (kindOf (firstOf (fields l))) (numbersOf l)) (rowWith 0 []) .count) × (cond t (rowWith (kindOf (firstOf (fields l))) (numbersOf l)) (rowWith 0 []) .count ≤ 38)
-    go true e k = let n = five (kindOf (firstOf (fields l))) (length (othersOf (fields l))) (allNumbers (othersOf (fields l))) k e in let m = length-map (othersOf (fields l)) value in (omega arith, omega arith)
-    go false e k = absurd (omega arith)
+    go : (t : Bool) → readable l ≡ t → cond t (rowWith (lineKind l) (numbersOf l)) (rowWith kind.Unreadable []) .kind ≡ kind.Farm
+        → (5 ≤ cond t (rowWith (lineKind l) (numbersOf l)) (rowWith kind.Unreadable []) .count) × (cond t (rowWith (lineKind l) (numbersOf l)) (rowWith kind.Unreadable []) .count ≤ 38)
+    go true e k = let n = five (lineKind l) (length (othersOf (fields l))) (allNumbers (othersOf (fields l))) k e in let m = length-map (othersOf (fields l)) value in (omega arith, omega arith)
+    go false e k = absurd (unreadable-farm k)
+
+-- ---- In its turn, and out of it
+
+module _ (f : Farm) (r : Row) where
+  pub row-turn : inTurn (r .kind) (f .opened) ≡ true → byRow f r ≡ calledBy f r
+  unfolding byRow
+  row-turn e = rw e
+
+  -- out of its turn
+  pub row-unread : inTurn (r .kind) (f .opened) ≡ false → byRow f r ≡ unread f
+  unfolding byRow
+  row-unread e = rw e

@@ -3,12 +3,13 @@ ghost use mathlib.Core.Path.{_≡_};
 ghost use Prim.Native.Nat.{_+_, _*_, _≤_};
 ghost use lib.ListN.{length, take};
 ghost use Rattle.planner.specs.Calls.{said, numberOf};
+ghost use Rattle.text.specs.Writing.{WroteWithin};
 ghost use Rattle.protocol.specs.Model.{answerText, refusal, chunkText, chunkTexts};
-ghost use Rattle.protocol.specs.Lines.{lineWith, chunksBefore, textOf};
-ghost use Rattle.protocol.specs.Writing.{Wrote};
+ghost use Rattle.protocol.specs.AnswerLines.{lineWith, textOf};
 use planner::Answer;
 use planner::Question;
 use printing::Line;
+use printing::Word;
 use printing::put;
 use walk::Chunk;
 
@@ -32,7 +33,7 @@ fn number_of(question: Question) -> u64
 }
 
 // The line of an answer: the word with its values where it was granted, `no` with its number where it was refused.
-pub fn line_of(answer: Answer, word: u64) -> Line
+pub fn line_of(answer: Answer, word: Word) -> Line
     ensures { λ r. ⌜ r ≡ lineWith word (said answer) ⌝ }
 {
     match answer {
@@ -71,7 +72,7 @@ pub fn line_of(answer: Answer, word: u64) -> Line
             numbers: [show, held, charged, 0, 0, 0, 0],
         },
         Answer::No(question) => Line {
-            word: 6,
+            word: Word::No,
             count: 1,
             numbers: [number_of(question), 0, 0, 0, 0, 0, 0],
         },
@@ -83,7 +84,7 @@ fn chunk_line(chunk: Chunk) -> Line
     ensures { λ r. ⌜ (r .count ≤ 7) × (textOf r ≡ chunkText chunk) ⌝ }
 {
     Line {
-        word: 3,
+        word: Word::Chunk,
         count: 7,
         numbers: [
             chunk.job,
@@ -98,9 +99,9 @@ fn chunk_line(chunk: Chunk) -> Line
 }
 
 // Writes the answer to a call at place `at`, and answers the place behind it.
-pub fn put_answer(out: &mut [u8], at: usize, answer: Answer, word: u64) -> usize
+pub fn put_answer(out: &mut [u8], at: usize, answer: Answer, word: Word) -> usize
     requires { ⌜ at + 160 ≤ length (now out) ⌝ }
-    ensures { λ r. ⌜ Wrote (answerText word (said answer)) at 160 (now (out .entry)) (now (out .exit)) r ⌝ }
+    ensures { λ r. ⌜ WroteWithin 160 (answerText word (said answer)) at (now (out .entry)) (now (out .exit)) r ⌝ }
 {
     put(out, at, line_of(answer, word))
 }
@@ -108,34 +109,23 @@ pub fn put_answer(out: &mut [u8], at: usize, answer: Answer, word: u64) -> usize
 // Writes `no` 11: the line cannot be read, or not in its turn.
 pub fn put_unread(out: &mut [u8], at: usize) -> usize
     requires { ⌜ at + 160 ≤ length (now out) ⌝ }
-    ensures { λ r. ⌜ Wrote (refusal 11) at 160 (now (out .entry)) (now (out .exit)) r ⌝ }
+    ensures { λ r. ⌜ WroteWithin 160 (refusal 11) at (now (out .entry)) (now (out .exit)) r ⌝ }
 {
     put(
         out,
         at,
         Line {
-            word: 6,
+            word: Word::No,
             count: 1,
             numbers: [11, 0, 0, 0, 0, 0, 0],
         },
     )
 }
 
-// How many chunk lines stand before the line of a clock move.
-pub fn chunks_before(line: Line) -> u64
-    ensures { λ r. ⌜ r ≡ chunksBefore line ⌝ }
-{
-    let numbers = line.numbers;
-    if line.word == 4 {
-        return numbers[1];
-    }
-    0
-}
-
 // Writes the lines of the first `count` chunks at place `at`, and answers the place behind them.
 pub fn put_chunks(out: &mut [u8], at: usize, chunks: [Chunk; 1024], count: usize) -> usize
     requires { ⌜ (count ≤ 1024) × (at + count * 160 ≤ length (now out)) ⌝ }
-    ensures { λ r. ⌜ Wrote (chunkTexts (take count chunks)) at (count * 160) (now (out .entry)) (now (out .exit)) r ⌝ }
+    ensures { λ r. ⌜ WroteWithin (count * 160) (chunkTexts (take count chunks)) at (now (out .entry)) (now (out .exit)) r ⌝ }
 {
     let mut i = 0;
     let mut place = at;

@@ -3,9 +3,10 @@ ghost use mathlib.Core.Path.{_≡_};
 ghost use mathlib.Core.List.{[]};
 ghost use lib.ListN.{length};
 ghost use Rattle.planner.specs.Calls.{unopened};
+ghost use Rattle.text.specs.Writing.{WroteWithin};
 ghost use Rattle.protocol.specs.Model.{part};
 ghost use Rattle.protocol.specs.Rows.{pendingOf};
-ghost use Rattle.protocol.specs.Writing.{Took, Wrote, endText};
+ghost use Rattle.protocol.specs.Promises.{Took, endText};
 use crate::Progress;
 use crate::Rest;
 use crate::Session;
@@ -13,8 +14,10 @@ use crate::answer::put_unread;
 use crate::kept::row_of;
 use crate::kept::with_bytes;
 use crate::step::answer_row;
+use crate::step::in_turn;
 use crate::step::put_account;
 use planner::Farm;
+use reading::Kind;
 use reading::find;
 use shares::Costs;
 
@@ -78,14 +81,20 @@ pub fn answer_block(session: Session, block: &[u8], from: usize, out: &mut [u8])
         next = end + 1;
         let row = row_of(line);
         let kind = row.kind;
-        if kind == 0 {
+        if !in_turn(kind, farm.opened) {
             at = put_unread(out, at);
-        } else if kind == 4 {
-            at = put_account(farm, row, out, at);
         } else {
-            let done = answer_row(farm, row, out, at);
-            farm = done.farm;
-            at = done.at;
+            match kind {
+                Kind::Account => {
+                    let numbers = row.numbers;
+                    at = put_account(farm, numbers[0], out, at);
+                }
+                _ => {
+                    let done = answer_row(farm, row, out, at);
+                    farm = done.farm;
+                    at = done.at;
+                }
+            }
         }
     }
     Progress {
@@ -97,7 +106,7 @@ pub fn answer_block(session: Session, block: &[u8], from: usize, out: &mut [u8])
 
 // The end of the input: what is pending is a line if it is not empty. It writes nothing where `out` may not hold the answer.
 pub fn end_of_input(session: Session, out: &mut [u8]) -> usize
-    ensures { λ r. ⌜ Wrote (endText session (length (now (out .entry)))) 0 (length (now (out .entry))) (now (out .entry)) (now (out .exit)) r ⌝ }
+    ensures { λ r. ⌜ WroteWithin (length (now (out .entry))) (endText session (length (now (out .entry)))) 0 (now (out .entry)) (now (out .exit)) r ⌝ }
 {
     let rest = session.rest;
     if out.len() < 164000 {

@@ -6,6 +6,7 @@ ghost use lib.Seq.{paste};
 ghost use Rattle.protocol.specs.Feeding.{keptAll, stretch};
 ghost use Rattle.protocol.specs.Rows.{pendingOf, rowIn};
 use crate::Rest;
+use reading::Kind;
 use reading::Row;
 use reading::read;
 
@@ -51,7 +52,7 @@ pub fn row_of(rest: Rest) -> Row
     let bytes = rest.bytes;
     if 1024 < fill {
         return Row {
-            kind: 0,
+            kind: Kind::Unreadable,
             count: 0,
             numbers: [0; 38],
         };

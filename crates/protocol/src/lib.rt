@@ -1,5 +1,5 @@
 // Text: the lines of a day and the answers that they get, fed in blocks. It knows farms and bytes, and neither reads nor writes a file.
-// What a line is answered and what a day prints is in specs/Model.antt.
+// What a line is answered and what the bytes of a block come to is in specs/Model.antt; what a whole day prints is in the crate printed.
 mod answer;
 mod blocks;
 mod kept;

@@ -3,18 +3,20 @@ ghost use mathlib.Core.Path.{_≡_};
 ghost use Prim.Native.Nat.{_+_, _≤_};
 ghost use lib.ListN.{length, getD};
 ghost use Rattle.planner.specs.Calls.{Replies, openSaid, openFarm};
-ghost use Rattle.protocol.specs.Model.{clockLine, costsIn};
-ghost use Rattle.protocol.specs.Rows.{FarmRow, byRow, allowancesIn};
-ghost use Rattle.protocol.specs.Writing.{Steps, Wrote, largest};
+ghost use Rattle.text.specs.Writing.{WroteWithin};
+ghost use Rattle.protocol.specs.Model.{accountLine, clockLine, costsIn, inTurn};
+ghost use Rattle.protocol.specs.Rows.{FarmRow, calledBy, allowancesIn};
+ghost use Rattle.protocol.specs.Promises.{Steps, largest, replied};
 use crate::Stepped;
-use crate::answer::chunks_before;
 use crate::answer::line_of;
 use crate::answer::put_answer;
 use crate::answer::put_chunks;
 use crate::answer::put_unread;
 use planner::Farm;
 use planner::Reply;
+use printing::Word;
 use printing::put;
+use reading::Kind;
 use reading::Row;
 use shares::Costs;
 use walk::Chunk;
@@ -35,7 +37,8 @@ fn opening(row: Row) -> Reply
     Farm::open(numbers[0], costs, &numbers[5..count])
 }
 
-// A clock move that is lent 1,024 records: its chunk lines first, then its clock line.
+// A clock move that is lent 1,024 records: its chunk lines first, then its clock line. The line's second number is the count of the chunk
+// lines, and 0 in a refusal.
 fn clock_step(farm: Farm, time: u64, out: &mut [u8], at: usize) -> Stepped
     requires { ⌜ at + largest ≤ length (now out) ⌝ }
     ensures { λ r. ⌜ Steps (clockLine farm time) at (now (out .entry)) (now (out .exit)) r ⌝ }
@@ -52,10 +55,10 @@ fn clock_step(farm: Farm, time: u64, out: &mut [u8], at: usize) -> Stepped
     let table = farm.clock_by_value(time, [none; 1024]);
     let reply = table.reply;
     let answer = reply.answer;
-    let line = line_of(answer, 4);
+    let line = line_of(answer, Word::Clock);
     let chunks = table.lines;
-    let count = chunks_before(line);
-    let place = put_chunks(out, at, chunks, count as usize);
+    let numbers = line.numbers;
+    let place = put_chunks(out, at, chunks, numbers[1] as usize);
     let next = reply.farm;
     Stepped {
         farm: next,
@@ -64,55 +67,62 @@ fn clock_step(farm: Farm, time: u64, out: &mut [u8], at: usize) -> Stepped
 }
 
 // An account: nothing changes.
-pub fn put_account(farm: Farm, row: Row, out: &mut [u8], at: usize) -> usize
-    requires { ⌜ (row .kind ≡ 4) × (at + 160 ≤ length (now out)) ⌝ }
-    ensures { λ r. ⌜ Wrote (byRow farm row .text) at 160 (now (out .entry)) (now (out .exit)) r ⌝ }
+pub fn put_account(farm: Farm, show: u64, out: &mut [u8], at: usize) -> usize
+    requires { ⌜ at + 160 ≤ length (now out) ⌝ }
+    ensures { λ r. ⌜ WroteWithin 160 (accountLine farm show .text) at (now (out .entry)) (now (out .exit)) r ⌝ }
 {
-    let numbers = row.numbers;
-    if farm.opened {
-        let answer = farm.account_answer(numbers[0]);
-        return put_answer(out, at, answer, 5);
-    }
-    put_unread(out, at)
+    put_answer(out, at, farm.account_answer(show), Word::Account)
 }
 
-// The answer of a row that may change the farm: `farm` before an opened farm, `job` and `clock` after it.
+// The answer of a reply, and its farm.
+fn put_reply(reply: Reply, word: Word, out: &mut [u8], at: usize) -> Stepped
+    requires { ⌜ at + 160 ≤ length (now out) ⌝ }
+    ensures { λ r. ⌜ Steps (replied word reply) at (now (out .entry)) (now (out .exit)) r ⌝ }
+{
+    let answer = reply.answer;
+    let farm = reply.farm;
+    Stepped {
+        farm,
+        at: put_answer(out, at, answer, word),
+    }
+}
+
+// Whether a line of this kind is in its turn: `farm` before an opened farm, the others after it.
+pub fn in_turn(kind: Kind, opened: bool) -> bool
+    ensures { λ r. ⌜ r ≡ inTurn kind opened ⌝ }
+{
+    match kind {
+        Kind::Farm => !opened,
+        Kind::Job => opened,
+        Kind::Clock => opened,
+        Kind::Account => opened,
+        Kind::Unreadable => false,
+    }
+}
+
+// The answer of a row in its turn.
 pub fn answer_row(farm: Farm, row: Row, out: &mut [u8], at: usize) -> Stepped
-    requires { ⌜ FarmRow row × (row .kind ≡ 4 → ⊥) × (at + largest ≤ length (now out)) ⌝ }
-    ensures { λ r. ⌜ Steps (byRow farm row) at (now (out .entry)) (now (out .exit)) r ⌝ }
+    requires { ⌜ FarmRow row × (at + largest ≤ length (now out)) ⌝ }
+    ensures { λ r. ⌜ Steps (calledBy farm row) at (now (out .entry)) (now (out .exit)) r ⌝ }
 {
     let kind = row.kind;
     let numbers = row.numbers;
-    let opened = farm.opened;
-    if opened {
-        if kind == 3 {
-            return clock_step(farm, numbers[0], out, at);
-        }
-        if kind == 2 {
-            let reply = farm.offer(numbers[0], numbers[1], numbers[2]);
-            let answer = reply.answer;
-            let next = reply.farm;
-            return Stepped {
-                farm: next,
-                at: put_answer(out, at, answer, 2),
-            };
-        }
-        return Stepped {
+    match kind {
+        Kind::Farm => put_reply(opening(row), Word::Open, out, at),
+        Kind::Job => put_reply(
+            farm.offer(numbers[0], numbers[1], numbers[2]),
+            Word::Yes,
+            out,
+            at,
+        ),
+        Kind::Clock => clock_step(farm, numbers[0], out, at),
+        Kind::Account => Stepped {
+            farm,
+            at: put_account(farm, numbers[0], out, at),
+        },
+        Kind::Unreadable => Stepped {
             farm,
             at: put_unread(out, at),
-        };
-    }
-    if kind == 1 {
-        let reply = opening(row);
-        let answer = reply.answer;
-        let next = reply.farm;
-        return Stepped {
-            farm: next,
-            at: put_answer(out, at, answer, 1),
-        };
-    }
-    Stepped {
-        farm,
-        at: put_unread(out, at),
+        },
     }
 }

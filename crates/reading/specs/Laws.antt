@@ -8,8 +8,11 @@ use borrow.Author.Tests.{leb-true, eqb-true}
 use lib.Dec.{leb, eqb}
 use lib.ListN.{length, take, replicate, length-append, length-take, length-replicate}
 use Rattle.lists.specs.Laws.{All, all-take, all-join}
+use Rattle.text.specs.Model.{tab, valueFrom, value}
 use Rattle.reading.specs.declared.Row.{Row}
-use Rattle.reading.specs.Model.{tab, before, same, onFirst, fields, allDigits, isNumber, allNumbers, valueFrom, value, farmWord, jobWord, clockWord, accountWord, kindOf, fits, firstOf, othersOf, numbersOf, readable, rowWith, rowOf}
+use Rattle.reading.specs.declared.Kind.{Kind}
+use Rattle.reading.specs.declared.Kind.the-variants as kind
+use Rattle.reading.specs.Model.{before, same, onFirst, fields, allDigits, isNumber, allNumbers, wordOf, kindAmong, kindOf, fits, othersOf, lineKind, numbersOf, readable, rowWith, rowOf}
 use Rattle.reading.specs.Steps.{fields-cut, tens, tens-le, tens-more, tens-start}
 
 -- ---- Fields lose nothing
@@ -123,78 +126,76 @@ zeros-small (suc n) = (omega arith, zeros-small n)
 
 -- A row has 38 places, a count of at most 38, and numbers below 10^13, whatever the line.
 pub record Kept (r : Row) : Type 0 where
-  pub kind : r .kind ≤ 4
   pub places : length (r .numbers) ≡ 38
   pub count : r .count ≤ 38
   pub small : All Small (r .numbers)
 
-kept-with : (k : ℕ) (ns : List ℕ) → k ≤ 4 → All Small ns → Kept (rowWith k ns)
-kept-with k ns l h = record {
-  kind = l;
+kept-with : (k : Kind) (ns : List ℕ) → All Small ns → Kept (rowWith k ns)
+kept-with k ns h = record {
   places = let z : length (replicate {A = ℕ} (38 - length ns) 0) ≡ 38 - length ns = length-replicate _ _ in omega (arith, length-append (take 38 ns) (replicate (38 - length ns) 0), length-take 38 ns);
   count = omega arith;
   small = all-join Small (take 38 ns) (replicate (38 - length ns) 0) (all-take Small 38 ns h) (zeros-small (38 - length ns));
 }
 
-kind-step : (a b c d : Bool) → cond a 1 (cond b 2 (cond c 3 (cond d 4 0))) ≤ 4
-kind-step true b c d = omega arith
-kind-step false true c d = omega arith
-kind-step false false true d = omega arith
-kind-step false false false true = omega arith
-kind-step false false false false = omega arith
-
-kind-at-most : (w : List ℕ) → kindOf w ≤ 4
-unfolding kindOf
-kind-at-most w = kind-step (same w farmWord) (same w jobWord) (same w clockWord) (same w accountWord)
-
-kept-step : (t : Bool) (bs : List ℕ) → readable bs ≡ t → Kept (cond t (rowWith (kindOf (firstOf (fields bs))) (numbersOf bs)) (rowWith 0 []))
+kept-step : (t : Bool) (bs : List ℕ) → readable bs ≡ t → Kept (cond t (rowWith (lineKind bs) (numbersOf bs)) (rowWith kind.Unreadable []))
 unfolding readable
 kept-step true bs e =
-    kept-with (kindOf (firstOf (fields bs))) (numbersOf bs) (kind-at-most (firstOf (fields bs))) (values-small (othersOf (fields bs)) (and-both (fits (kindOf (firstOf (fields bs))) (length (othersOf (fields bs)))) (allNumbers (othersOf (fields bs))) e .1))
-kept-step false bs e = kept-with 0 [] (omega arith) tt
+    kept-with (lineKind bs) (numbersOf bs) (values-small (othersOf (fields bs)) (and-both (fits (lineKind bs) (length (othersOf (fields bs)))) (allNumbers (othersOf (fields bs))) e .1))
+kept-step false bs e = kept-with kind.Unreadable [] tt
 
 pub row-kept : (bs : List ℕ) → Kept (rowOf bs)
 unfolding rowOf
 row-kept bs = kept-step (readable bs) bs refl
 
+-- ---- A kind's word
+
+-- Each kind is read from its own word, so no two kinds share one.
+pub kind-word : (k : Kind) → kindOf (wordOf k) ≡ k
+unfolding kindOf kindAmong same
+kind-word kind.Farm = refl
+kind-word kind.Job = refl
+kind-word kind.Clock = refl
+kind-word kind.Account = refl
+kind-word kind.Unreadable = refl
+
 -- ---- Examples
 
--- `job 1 10 18`, with tabs: kind 2 and three numbers.
-pub job-line : rowOf (106 ∷ 111 ∷ 98 ∷ 9 ∷ 49 ∷ 9 ∷ 49 ∷ 48 ∷ 9 ∷ 49 ∷ 56 ∷ []) ≡ rowWith 2 (1 ∷ 10 ∷ 18 ∷ [])
-unfolding rowOf readable kindOf same fields allNumbers allDigits valueFrom
+-- `job 1 10 18`, with tabs: its kind and three numbers.
+pub job-line : rowOf (106 ∷ 111 ∷ 98 ∷ 9 ∷ 49 ∷ 9 ∷ 49 ∷ 48 ∷ 9 ∷ 49 ∷ 56 ∷ []) ≡ rowWith kind.Job (1 ∷ 10 ∷ 18 ∷ [])
+unfolding rowOf readable kindOf kindAmong same fields allNumbers allDigits valueFrom
 job-line = refl
 
 -- `clock 007`: zeros in front change nothing.
-pub zeros-line : rowOf (99 ∷ 108 ∷ 111 ∷ 99 ∷ 107 ∷ 9 ∷ 48 ∷ 48 ∷ 55 ∷ []) ≡ rowWith 3 (7 ∷ [])
-unfolding rowOf readable kindOf same fields allNumbers allDigits valueFrom
+pub zeros-line : rowOf (99 ∷ 108 ∷ 111 ∷ 99 ∷ 107 ∷ 9 ∷ 48 ∷ 48 ∷ 55 ∷ []) ≡ rowWith kind.Clock (7 ∷ [])
+unfolding rowOf readable kindOf kindAmong same fields allNumbers allDigits valueFrom
 zeros-line = refl
 
 -- `clock 9999999999999`: 13 digits are read.
-pub digits-13 : rowOf (99 ∷ 108 ∷ 111 ∷ 99 ∷ 107 ∷ 9 ∷ replicate 13 57) ≡ rowWith 3 (9999999999999 ∷ [])
-unfolding rowOf readable kindOf same fields allNumbers allDigits valueFrom
+pub digits-13 : rowOf (99 ∷ 108 ∷ 111 ∷ 99 ∷ 107 ∷ 9 ∷ replicate 13 57) ≡ rowWith kind.Clock (9999999999999 ∷ [])
+unfolding rowOf readable kindOf kindAmong same fields allNumbers allDigits valueFrom
 digits-13 = refl
 
 -- `clock 00000000000007`: 14 digits are not, whatever their value.
-pub digits-14 : rowOf (99 ∷ 108 ∷ 111 ∷ 99 ∷ 107 ∷ 9 ∷ replicate 13 48 ++ 55 ∷ []) ≡ rowWith 0 []
-unfolding rowOf readable kindOf same fields allNumbers allDigits
+pub digits-14 : rowOf (99 ∷ 108 ∷ 111 ∷ 99 ∷ 107 ∷ 9 ∷ replicate 13 48 ++ 55 ∷ []) ≡ rowWith kind.Unreadable []
+unfolding rowOf readable kindOf kindAmong same fields allNumbers allDigits
 digits-14 = refl
 
 -- `job 1  18`: an empty field is no number.
-pub empty-field : rowOf (106 ∷ 111 ∷ 98 ∷ 9 ∷ 49 ∷ 9 ∷ 9 ∷ 49 ∷ 56 ∷ []) ≡ rowWith 0 []
-unfolding rowOf readable kindOf same fields allNumbers allDigits
+pub empty-field : rowOf (106 ∷ 111 ∷ 98 ∷ 9 ∷ 49 ∷ 9 ∷ 9 ∷ 49 ∷ 56 ∷ []) ≡ rowWith kind.Unreadable []
+unfolding rowOf readable kindOf kindAmong same fields allNumbers allDigits
 empty-field = refl
 
 -- `farm 1 1 1 1 1` and a tab at the end: the field behind it is empty.
-pub last-tab : rowOf (102 ∷ 97 ∷ 114 ∷ 109 ∷ 9 ∷ 49 ∷ 9 ∷ 49 ∷ 9 ∷ 49 ∷ 9 ∷ 49 ∷ 9 ∷ 49 ∷ 9 ∷ []) ≡ rowWith 0 []
-unfolding rowOf readable kindOf same fields allNumbers allDigits
+pub last-tab : rowOf (102 ∷ 97 ∷ 114 ∷ 109 ∷ 9 ∷ 49 ∷ 9 ∷ 49 ∷ 9 ∷ 49 ∷ 9 ∷ 49 ∷ 9 ∷ 49 ∷ 9 ∷ []) ≡ rowWith kind.Unreadable []
+unfolding rowOf readable kindOf kindAmong same fields allNumbers allDigits
 last-tab = refl
 
 -- `clock 7` and a carriage return: it is no digit.
-pub carriage-return : rowOf (99 ∷ 108 ∷ 111 ∷ 99 ∷ 107 ∷ 9 ∷ 55 ∷ 13 ∷ []) ≡ rowWith 0 []
-unfolding rowOf readable kindOf same fields allNumbers allDigits
+pub carriage-return : rowOf (99 ∷ 108 ∷ 111 ∷ 99 ∷ 107 ∷ 9 ∷ 55 ∷ 13 ∷ []) ≡ rowWith kind.Unreadable []
+unfolding rowOf readable kindOf kindAmong same fields allNumbers allDigits
 carriage-return = refl
 
 -- The empty line has no kind.
-pub empty-line : rowOf [] ≡ rowWith 0 []
-unfolding rowOf readable kindOf same fields allNumbers
+pub empty-line : rowOf [] ≡ rowWith kind.Unreadable []
+unfolding rowOf readable kindOf kindAmong same fields allNumbers
 empty-line = refl

@@ -1,17 +1,14 @@
 -- A line of input and the record that it is, in the words of document 01: fields parted by tabs, the first a kind, the others numbers of 1 to 13
 -- digits. A line is given without its newline. Everything here is a definition; nothing is assumed.
-use Prim.Native.Nat.{ℕ, suc, _+_, _*_, _-_, min}
+use Prim.Native.Nat.{ℕ, suc, _-_, min}
 use mathlib.Core.List.{List, [], _∷_, _++_, map}
 use mathlib.Core.Bool.{Bool, true, false, cond, _&&_}
 use lib.Dec.{leb, eqb}
 use lib.ListN.{length, take, replicate}
+use Rattle.text.specs.Model.{tab, value}
 use Rattle.reading.specs.declared.Row.{Row}
-
-abbrev pub tab : ℕ
-tab = 9
-
-abbrev pub newline : ℕ
-newline = 10
+use Rattle.reading.specs.declared.Kind.{Kind}
+use Rattle.reading.specs.declared.Kind.the-variants as kind
 
 -- ---- Bytes
 
@@ -62,49 +59,52 @@ unfoldable pub allNumbers : List (List ℕ) → Bool
 allNumbers [] = true
 allNumbers (f ∷ fs) = isNumber f && allNumbers fs
 
--- its value in base ten, behind digits of value v
-unfoldable pub valueFrom : ℕ → List ℕ → ℕ
-valueFrom v [] = v
-valueFrom v (b ∷ bs) = valueFrom (v * 10 + (b - 48)) bs
-
-abbrev pub value : List ℕ → ℕ
-value f = valueFrom 0 f
-
 -- ---- Kinds
 
--- farm, job, clock and account are kinds 1 to 4; another word is 0
-abbrev pub farmWord : List ℕ
-farmWord = 102 ∷ 97 ∷ 114 ∷ 109 ∷ []
+-- the word of each kind: farm, job, clock and account; a line that cannot be read has none
+abbrev pub wordOf : Kind → List ℕ
+wordOf kind.Farm = 102 ∷ 97 ∷ 114 ∷ 109 ∷ []
+wordOf kind.Job = 106 ∷ 111 ∷ 98 ∷ []
+wordOf kind.Clock = 99 ∷ 108 ∷ 111 ∷ 99 ∷ 107 ∷ []
+wordOf kind.Account = 97 ∷ 99 ∷ 99 ∷ 111 ∷ 117 ∷ 110 ∷ 116 ∷ []
+wordOf kind.Unreadable = []
 
-abbrev pub jobWord : List ℕ
-jobWord = 106 ∷ 111 ∷ 98 ∷ []
+-- the kinds that a word names
+abbrev pub kinds : List Kind
+kinds = kind.Farm ∷ kind.Job ∷ kind.Clock ∷ kind.Account ∷ []
 
-abbrev pub clockWord : List ℕ
-clockWord = 99 ∷ 108 ∷ 111 ∷ 99 ∷ 107 ∷ []
+-- the one among these kinds whose word it is
+unfoldable pub kindAmong : List Kind → List ℕ → Kind
+kindAmong [] w = kind.Unreadable
+kindAmong (k ∷ ks) w = cond (same w (wordOf k)) k (kindAmong ks w)
 
-abbrev pub accountWord : List ℕ
-accountWord = 97 ∷ 99 ∷ 99 ∷ 111 ∷ 117 ∷ 110 ∷ 116 ∷ []
+unfoldable pub kindOf : List ℕ → Kind
+kindOf w = kindAmong kinds w
 
-unfoldable pub kindOf : List ℕ → ℕ
-kindOf w = cond (same w farmWord) 1 (cond (same w jobWord) 2 (cond (same w clockWord) 3 (cond (same w accountWord) 4 0)))
-
--- how many numbers follow: nodes and four costs at least for a farm, then its allowances; three for a job; one for a clock or an account
-abbrev pub fits : ℕ → ℕ → Bool
-fits k n = cond (eqb k 1) (leb 5 n) (cond (eqb k 2) (eqb n 3) (cond (eqb k 3) (eqb n 1) (cond (eqb k 4) (eqb n 1) false)))
+-- how many numbers follow: nodes and four costs for a farm, then its allowances; show, size and deadline for a job; a time; a show
+abbrev pub fits : Kind → ℕ → Bool
+fits kind.Farm n = leb 5 n
+fits kind.Job n = eqb n 3
+fits kind.Clock n = eqb n 1
+fits kind.Account n = eqb n 1
+fits kind.Unreadable n = false
 
 -- ---- A line
+
+abbrev pub lineKind : List ℕ → Kind
+lineKind bs = kindOf (firstOf (fields bs))
 
 abbrev pub numbersOf : List ℕ → List ℕ
 numbersOf bs = map value (othersOf (fields bs))
 
 -- it can be read
 unfoldable pub readable : List ℕ → Bool
-readable bs = fits (kindOf (firstOf (fields bs))) (length (othersOf (fields bs))) && allNumbers (othersOf (fields bs))
+readable bs = fits (lineKind bs) (length (othersOf (fields bs))) && allNumbers (othersOf (fields bs))
 
 -- a row of numbers: 38 are kept (nodes, four costs and 33 allowances, one more than any farm has)
-abbrev pub rowWith : ℕ → List ℕ → Row
+abbrev pub rowWith : Kind → List ℕ → Row
 rowWith k ns = record { kind = k; count = min 38 (length ns); numbers = take 38 ns ++ replicate (38 - length ns) 0 }
 
--- the record of a line: its kind and numbers, or kind 0 and none where it cannot be read
+-- the record of a line: its kind and numbers; no numbers where it cannot be read
 unfoldable pub rowOf : List ℕ → Row
-rowOf bs = cond (readable bs) (rowWith (kindOf (firstOf (fields bs))) (numbersOf bs)) (rowWith 0 [])
+rowOf bs = cond (readable bs) (rowWith (lineKind bs) (numbersOf bs)) (rowWith kind.Unreadable [])

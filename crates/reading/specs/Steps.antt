@@ -9,9 +9,12 @@ use borrow.Author.Tests.{le-leb, lt-leb, eq-eqb, ne-eqb}
 use lib.Dec.{leb, eqb}
 use lib.ListN.{length, getD, take, drop, set, replicate, length-map}
 use lib.Seq.{sets, drop-cons, drop-length, drop-drop, take-nil}
+use Rattle.text.specs.Model.{tab, valueFrom, value}
 use Rattle.reading.specs.declared.Number.{Number}
 use Rattle.reading.specs.declared.Numbers.{Numbers}
-use Rattle.reading.specs.Model.{tab, before, same, onFirst, fields, firstOf, othersOf, allDigits, isNumber, allNumbers, valueFrom, value, kindOf, fits, readable, rowWith, rowOf}
+use Rattle.reading.specs.declared.Kind.{Kind}
+use Rattle.reading.specs.declared.Kind.the-variants as kind
+use Rattle.reading.specs.Model.{before, same, onFirst, fields, othersOf, allDigits, isNumber, allNumbers, kindOf, fits, lineKind, readable, rowWith, rowOf}
 
 -- ---- The next of a byte
 
@@ -211,11 +214,11 @@ sets-zeros (suc n) (v ∷ vs) =
     let z : suc n - suc (length vs) ≡ n - length vs = omega arith in
     rw z (sets-cons v (replicate n 0) 0 vs ∙ ap (λ (l : List ℕ). v ∷ l) (sets-zeros n vs))
 
-module _ (xs : List ℕ) (e k : ℕ) (x : Numbers) (cut : e ≡ 0 + before tab xs) (word : k ≡ kindOf (take (e - 0) xs)) (all : x ≡ gathered 0 (replicate 38 0) (behind (drop e xs))) where
+module _ (xs : List ℕ) (e : ℕ) (k : Kind) (x : Numbers) (cut : e ≡ 0 + before tab xs) (word : k ≡ kindOf (take (e - 0) xs)) (all : x ≡ gathered 0 (replicate 38 0) (behind (drop e xs))) where
   at-tab : before tab xs ≡ e
   at-tab = omega arith
 
-  first-is : kindOf (firstOf (fields xs)) ≡ k
+  first-is : lineKind xs ≡ k
   first-is = let z : e - 0 ≡ e = omega arith in rw (fields-cut xs, at-tab) (sym (rw z at word))
 
   others-are : othersOf (fields xs) ≡ behind (drop e xs)
@@ -225,7 +228,7 @@ module _ (xs : List ℕ) (e k : ℕ) (x : Numbers) (cut : e ≡ 0 + before tab x
   known-is = sym (ap (λ (y : Numbers). y .known) all ∙ gathered-known 0 (replicate 38 0) (behind (drop e xs)))
 
   -- A field is no number.
-  pub row-unknown : x .known ≡ false → rowOf xs ≡ rowWith 0 []
+  pub row-unknown : x .known ≡ false → rowOf xs ≡ rowWith kind.Unreadable []
   unfolding rowOf readable
   row-unknown u = rw (others-are, known-is, u, and-false)
 
@@ -237,7 +240,7 @@ module _ (xs : List ℕ) (e k : ℕ) (x : Numbers) (cut : e ≡ 0 + before tab x
     count-is = let n : x .count ≡ 0 + length (behind (drop e xs)) = ap (λ (y : Numbers). y .count) all-are in omega arith
 
     -- There are too few or too many.
-    pub row-unfit : fits k (x .count) ≡ false → rowOf xs ≡ rowWith 0 []
+    pub row-unfit : fits k (x .count) ≡ false → rowOf xs ≡ rowWith kind.Unreadable []
     unfolding rowOf readable
     row-unfit f = rw (first-is, others-are, count-is, f)
 

@@ -1,14 +1,26 @@
 // Text in: one line, given without its newline, and the record that it is. It knows bytes and numbers, and no farm.
 // What the public functions mean is in specs/Model.antt, what their parts work out in specs/Steps.antt.
 ghost use mathlib.Core.Path.{_≡_};
-ghost use Prim.Native.Nat.{min, _+_, _≤_};
+ghost use mathlib.Core.Bool.{cond};
+ghost use Prim.Native.Nat.{_+_, _≤_};
 ghost use lib.ListN.{length, drop, set, replicate};
 ghost use Rattle.reading.specs.Model.{before, same, kindOf, fits, rowOf};
 ghost use Rattle.reading.specs.Steps.{numberIn, behind, gathered};
+use numbers::least;
+use numbers::wide8;
 
-// A line's record: kind 1 to 4 for farm, job, clock and account, 0 for a line that cannot be read; and its first numbers.
+// The kind of a line, which its first field names; and that of a line that cannot be read.
+pub enum Kind {
+    Farm,
+    Job,
+    Clock,
+    Account,
+    Unreadable,
+}
+
+// A line's record: its kind, how many numbers it keeps, and these.
 pub struct Row {
-    pub kind: u64,
+    pub kind: Kind,
     pub count: usize,
     pub numbers: [u64; 38],
 }
@@ -66,51 +78,40 @@ fn is_word(word: &[u8], other: &[u8]) -> bool
     true
 }
 
-// 1 to 4 for farm, job, clock and account, 0 for another word.
-fn kind_of(word: &[u8]) -> u64
+// The kind where the word is that text, otherwise the other one.
+fn kind_if(word: &[u8], text: &[u8], kind: Kind, other: Kind) -> Kind
+    ensures { λ r. ⌜ r ≡ cond (same (now (word .entry)) (now (text .entry))) kind other ⌝ }
+{
+    if is_word(word, text) {
+        return kind;
+    }
+    other
+}
+
+// The kind that a word names.
+fn kind_of(word: &[u8]) -> Kind
     ensures { λ r. ⌜ r ≡ kindOf (now (word .entry)) ⌝ }
 {
-    if is_word(word, b"farm") {
-        return 1;
-    }
-    if is_word(word, b"job") {
-        return 2;
-    }
-    if is_word(word, b"clock") {
-        return 3;
-    }
-    if is_word(word, b"account") {
-        return 4;
-    }
-    0
+    let account = kind_if(word, b"account", Kind::Account, Kind::Unreadable);
+    let clock = kind_if(word, b"clock", Kind::Clock, account);
+    let job = kind_if(word, b"job", Kind::Job, clock);
+    kind_if(word, b"farm", Kind::Farm, job)
 }
 
 // Whether a kind has that many numbers.
-fn fitting(kind: u64, count: usize) -> bool
+fn fitting(kind: Kind, count: usize) -> bool
     ensures { λ r. ⌜ r ≡ fits kind count ⌝ }
 {
-    if kind == 1 {
-        return 5 <= count;
+    match kind {
+        Kind::Farm => 5 <= count,
+        Kind::Job => count == 3,
+        Kind::Clock => count == 1,
+        Kind::Account => count == 1,
+        Kind::Unreadable => false,
     }
-    if kind == 2 {
-        return count == 3;
-    }
-    if kind == 3 {
-        return count == 1;
-    }
-    if kind == 4 {
-        return count == 1;
-    }
-    false
 }
 
 // ---- The numbers
-
-fn wide(b: u8) -> u64
-    ensures { λ r. ⌜ (r ≡ b) × (r ≤ 255) ⌝ }
-{
-    b as u64
-}
 
 // A field of 1 to 13 digits and its value.
 fn digits(field: &[u8]) -> Number
@@ -126,7 +127,7 @@ fn digits(field: &[u8]) -> Number
     let mut value: u64 = 0;
     let mut i = 0;
     while i < n {
-        let b = wide(field[i]);
+        let b = wide8(field[i]);
         if b < 48 {
             return NO_NUMBER;
         }
@@ -185,21 +186,11 @@ fn gather(line: &[u8], from: usize) -> Numbers
 
 // ---- A line
 
-// How many of so many numbers a row keeps.
-fn kept(count: usize) -> usize
-    ensures { λ r. ⌜ r ≡ min 38 count ⌝ }
-{
-    if count < 38 {
-        return count;
-    }
-    38
-}
-
 fn unreadable() -> Row
-    ensures { λ r. ⌜ r ≡ record { kind = 0; count = 0; numbers = replicate 38 0 } ⌝ }
+    ensures { λ r. ⌜ r ≡ record { kind = Kind.Unreadable; count = 0; numbers = replicate 38 0 } ⌝ }
 {
     Row {
-        kind: 0,
+        kind: Kind::Unreadable,
         count: 0,
         numbers: [0; 38],
     }
@@ -221,7 +212,7 @@ pub fn read(line: &[u8]) -> Row
     let numbers = x.numbers;
     Row {
         kind,
-        count: kept(x.count),
+        count: least(38, x.count),
         numbers,
     }
 }

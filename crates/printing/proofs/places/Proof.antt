@@ -4,7 +4,7 @@ use Prim.Native.Nat.{ℕ, _+_, _-_, _≤_}
 use native.Mathlib.Omega.{arith}
 use lib.ListN.{drop}
 use Rattle.printing.specs.Model.{reached, powers}
-use Rattle.printing.specs.Puts.{reached-one, reached-end}
+use Rattle.printing.specs.Loops.{reached-one, reached-end}
 use borrow.Author.Needs.{needs}
 use Rattle.printing.proofs.places.Statement.{statement}
 use Rattle.printing.proofs.places.Tie as tie

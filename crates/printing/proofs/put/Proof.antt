@@ -1,8 +1,7 @@
 -- `printing::put` meets its contract: a word, numbers and a newline, one behind the other, are the line.
 use native.Mathlib.Omega.{arith}
-use Prim.Native.Nat.{_+_, _≤_}
 use Rattle.printing.specs.Model.{lineText}
-use Rattle.printing.specs.Puts.{puts-then, puts-length}
+use Rattle.text.specs.Writing.{wrote-join, wrote-length}
 use borrow.Author.Needs.{needs}
 use Rattle.printing.proofs.put.Statement.{statement}
 use Rattle.printing.proofs.put.Tie as tie
@@ -29,9 +28,10 @@ returns c =
     let w = c .before .before .before .before .before .before .before .before .before .before .before .put-word .ensures in
     let n = c .before .before .before .before .before .before .before .put-numbers .ensures in
     let t = c .before .before .put-text .ensures in
-    let h : c .before .before .put-text .result ≤ a .at + 160 = omega (arith, w .1, n .1, t .place) in
-    let p = puts-then (w .0) (puts-then (n .0) t (omega (arith, puts-length (w .0) (omega arith)))) (omega arith) in
-    (p .place, h, p .bytes)
+    record {
+      wrote = wrote-join (w .wrote) (omega (arith, w .within)) (wrote-join (n .wrote) (omega (arith, w .within, n .within, wrote-length (w .wrote) (omega (arith, w .within)))) t);
+      within = omega (arith, w .within, n .within, t .place);
+    }
 
 pub put-spec : {M : Type 1} → statement M
 put-spec =

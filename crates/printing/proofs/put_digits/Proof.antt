@@ -3,7 +3,7 @@ use mathlib.Core.Path.{_≡_, refl}
 use Prim.Native.Nat.{_≤_}
 use native.Mathlib.Omega.{arith}
 use lib.ListN.{length, length-set}
-use Rattle.printing.specs.Puts.{Spelled, spelled-none, spelled-turn, spelled-all}
+use Rattle.printing.specs.Loops.{Spelled, spelled-none, spelled-turn, spelled-all}
 use borrow.Author.Needs.{needs}
 use Rattle.printing.proofs.put_digits.Statement.{statement}
 use Rattle.printing.proofs.put_digits.Tie as tie

@@ -1,10 +1,10 @@
 -- `printing::put_number` meets its contract: the tab, and behind it as many digits as the number has.
 use mathlib.Core.Path.{ap}
-use Prim.Native.Nat.{ℕ, _+_, _≤_}
+use Prim.Native.Nat.{ℕ}
 use native.Mathlib.Omega.{arith}
 use Rattle.printing.specs.Model.{digits, decimal, powers}
 use Rattle.printing.specs.Decimal.{digits-length, reached-most}
-use Rattle.printing.specs.Puts.{puts-same, puts-then, puts-length}
+use Rattle.text.specs.Writing.{wrote-same, wrote-join, wrote-length}
 use borrow.Author.Needs.{needs}
 use Rattle.printing.proofs.put_number.Statement.{statement}
 use Rattle.printing.proofs.put_number.Tie as tie
@@ -22,7 +22,7 @@ put-digits-requires : tie.Need-put-digits-requires
 put-digits-requires c κs =
     let a = c .before .before .before .before .before .before .before .before .args in
     let p = c .before .before .before .before .put-text .ensures in
-    let l = puts-length p (omega (arith, p .place)) in
+    let l = wrote-length p (omega (arith, p .place)) in
     omega (arith, p .place, l, c .before .places .ensures, reached-most (a .n) powers)
 
 same-length : tie.Need-same-length
@@ -35,9 +35,10 @@ returns c =
     let p = c .before .before .before .before .before .before .before .put-text .ensures in
     let q = c .before .before .put-digits .ensures in
     let k = c .before .before .before .before .places .ensures in
-    let h : c .before .before .put-digits .result ≤ a .at + 21 =
-    omega (arith, p .place, q .place, k, digits-length (c .before .before .before .before .places .result) (a .n), reached-most (a .n) powers) in
-    (puts-then p (puts-same (ap (λ (m : ℕ). digits m (a .n)) k) q) (omega arith), h)
+    record {
+      wrote = wrote-join p (omega (arith, p .place)) (wrote-same (ap (λ (m : ℕ). digits m (a .n)) k) q);
+      within = omega (arith, p .place, q .place, k, digits-length (c .before .before .before .before .places .result) (a .n), reached-most (a .n) powers);
+    }
 
 pub put-number-spec : {M : Type 1} → statement M
 put-number-spec =

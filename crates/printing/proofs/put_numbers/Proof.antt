@@ -1,23 +1,24 @@
 -- `printing::put_numbers` meets its contract: the numbers so far stand, each behind its tab.
-use mathlib.Core.Path.{_≡_, refl, sym, ap}
-use Prim.Native.Nat.{ℕ, _+_, _-_, _*_, _≤_}
+use mathlib.Core.Path.{_≡_, refl, sym, subst}
+use Prim.Native.Nat.{ℕ, _-_, _*_, _≤_}
 use native.Mathlib.Omega.{arith}
 use lib.ListN.{length, take}
 use Rattle.printing.specs.Model.{tabbed}
-use Rattle.printing.specs.Puts.{Puts, puts-none, puts-same, puts-then, puts-length, tabbed-next}
+use Rattle.text.specs.Writing.{WroteWithin, wrote-none, wrote-same, wrote-join, wrote-length}
+use Rattle.printing.specs.Loops.{tabbed-next}
 use borrow.Author.Needs.{needs}
 use Rattle.printing.proofs.put_numbers.Statement.{statement}
 use Rattle.printing.proofs.put_numbers.Tie as tie
 
 abbrev Inv-loop : tie.InvT-loop
-Inv-loop out₀ at count numbers place₀ i₀ out place i = (i ≤ count) × (length out ≡ length out₀) × (place ≤ at + 21 * i) × Puts (tabbed (take i numbers)) out₀ at out place
+Inv-loop out₀ at count numbers place₀ i₀ out place i = (i ≤ count) × (length out ≡ length out₀) × WroteWithin (21 * i) (tabbed (take i numbers)) at out₀ out place
 
 abbrev μ-loop : tie.MeasureT-loop
 μ-loop out₀ at count numbers place₀ i₀ out place i = count - i
 
 loop-holds : tie.Need-loop-holds Inv-loop μ-loop
 unfolding tabbed
-loop-holds c = (omega arith, refl, omega arith, puts-none _ _)
+loop-holds c = (omega arith, refl, record { wrote = wrote-none _ _; within = omega arith })
 
 mul-put-number : tie.Need-mul-put-number Inv-loop μ-loop
 mul-put-number c = search needs
@@ -39,9 +40,8 @@ loop-again c =
     let a = c .before .before .before .before .before .before .before .args in
     let l = c .before .before .before .before .before .loop in
     let q = c .before .before .put-number .ensures in
-    let h : c .before .before .put-number .result ≤ length (a .out .now) = omega arith in
-    let p = puts-then (l .inv .3) (q .0) h in
-    (omega arith, puts-length p h, omega arith, puts-same (sym (tabbed-next (a .t3) (l .i) (omega arith))) p)
+    let p = wrote-join (l .inv .2 .wrote) (omega arith) (q .wrote) in
+    (omega arith, wrote-length p (omega arith), record { wrote = wrote-same (sym (tabbed-next (a .t3) (l .i) (omega arith))) p; within = omega arith })
 
 same-length : tie.Need-same-length Inv-loop μ-loop
 same-length c = search needs
@@ -51,7 +51,7 @@ returns c =
     let a = c .before .before .before .args in
     let l = c .before .loop in
     let e : l .i ≡ a .count = omega arith in
-    (puts-same (ap (λ (m : ℕ). tabbed (take m (a .t3))) e) (l .inv .3), omega arith)
+    subst (λ (m : ℕ). WroteWithin (21 * m) (tabbed (take m (a .t3))) (a .at) (a .out .now) (l .out) (l .place)) e (l .inv .2)
 
 pub put-numbers-spec : {M : Type 1} → statement M
 put-numbers-spec =

@@ -25,11 +25,11 @@ loop-holds : tie.Need-loop-holds Inv-loop μ-loop
 loop-holds c =
     (omega arith, tens-start, number-start (c .before .before .before .args .field .now) (omega arith) (omega arith))
 
-shared-slice-read-wide : tie.Need-shared-slice-read-wide Inv-loop μ-loop
-shared-slice-read-wide c = search needs
+shared-slice-read-wide8 : tie.Need-shared-slice-read-wide8 Inv-loop μ-loop
+shared-slice-read-wide8 c = search needs
 
-wide-requires : tie.Need-wide-requires Inv-loop μ-loop
-wide-requires c κs = search needs
+wide8-requires : tie.Need-wide8-requires Inv-loop μ-loop
+wide8-requires c κs = search needs
 
 returns-3 : tie.Need-returns-3 Inv-loop μ-loop
 returns-3 c =
@@ -59,7 +59,7 @@ loop-again : tie.Need-loop-again Inv-loop μ-loop
 loop-again c =
     let a = c .before .before .before .before .before .before .before .before .before .args in
     let l = c .before .before .before .before .before .loop in
-    let w = c .before .before .wide in
+    let w = c .before .before .wide8 in
     let m : numberFrom (l .value) (drop (l .i) (a .field .now)) ≡ numberFrom (l .value * 10 + (w .result - 48)) (drop (l .i + 1) (a .field .now)) = number-more (l .value) (a .field .now) (l .i) (omega arith) (w .result) (w .ensures .0) (omega arith) (omega arith) in
     (omega arith, tens-more (l .value) (w .result) (l .i) (l .inv .1) (omega arith), sym m ∙ l .inv .2)
 
@@ -78,8 +78,8 @@ digits-spec =
     returns
     returns-2
     loop-holds
-    shared-slice-read-wide
-    wide-requires
+    shared-slice-read-wide8
+    wide8-requires
     returns-3
     returns-4
     mul-value

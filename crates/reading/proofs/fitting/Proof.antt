@@ -1,30 +1,49 @@
--- `reading::fitting` meets its contract.
-use borrow.Author.Tests.{eq-eqb, ne-eqb}
+-- `reading::fitting` meets its contract, kind by kind.
+use borrow.Author.Needs.{needs}
 use Rattle.reading.proofs.fitting.Statement.{statement}
 use Rattle.reading.proofs.fitting.Tie as tie
 
+enum-told : tie.Need-enum-told
+enum-told c = search needs
+
+enum-told-2 : tie.Need-enum-told-2
+enum-told-2 c = search needs
+
+enum-told-3 : tie.Need-enum-told-3
+enum-told-3 c = search needs
+
+enum-told-4 : tie.Need-enum-told-4
+enum-told-4 c = search needs
+
+enum-told-5 : tie.Need-enum-told-5
+enum-told-5 c = search needs
+
 returns : tie.Need-returns
-returns c = rw (eq-eqb (c .before .args .kind) 1 (c .if1 .taken))
+returns c = rw (c .enum-told .given .1)
 
 returns-2 : tie.Need-returns-2
-returns-2 c =
-    let k = c .before .before .args .kind in
-    rw (ne-eqb k 1 (c .before .if1 .left), eq-eqb k 2 (c .if2 .taken))
+returns-2 c = rw (c .enum-told2 .given .1)
 
 returns-3 : tie.Need-returns-3
-returns-3 c =
-    let k = c .before .before .before .args .kind in
-    rw (ne-eqb k 1 (c .before .before .if1 .left), ne-eqb k 2 (c .before .if2 .left), eq-eqb k 3 (c .if3 .taken))
+returns-3 c = rw (c .enum-told3 .given .1)
 
 returns-4 : tie.Need-returns-4
-returns-4 c =
-    let k = c .before .before .before .before .args .kind in
-    rw (ne-eqb k 1 (c .before .before .before .if1 .left), ne-eqb k 2 (c .before .before .if2 .left), ne-eqb k 3 (c .before .if3 .left), eq-eqb k 4 (c .if4 .taken))
+returns-4 c = rw (c .enum-told4 .given .1)
 
 returns-5 : tie.Need-returns-5
-returns-5 c =
-    let k = c .before .before .before .before .args .kind in
-    rw (ne-eqb k 1 (c .before .before .before .if1 .left), ne-eqb k 2 (c .before .before .if2 .left), ne-eqb k 3 (c .before .if3 .left), ne-eqb k 4 (c .if4 .left))
+returns-5 c = search needs
 
 pub fitting-spec : {M : Type 1} → statement M
-fitting-spec = tie.close (tie.spec returns returns-2 returns-3 returns-4 returns-5)
+fitting-spec =
+    tie.close
+    (tie.spec
+    enum-told
+    enum-told-2
+    enum-told-3
+    enum-told-4
+    enum-told-5
+    returns
+    returns-2
+    returns-3
+    returns-4
+    returns-5)

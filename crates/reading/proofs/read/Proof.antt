@@ -49,8 +49,8 @@ returns-2 c =
     let f = c .before .before .before .before .before .before .before .before .find in
     c .unreadable2 .ensures ∙ sym (row-unfit (a .line .now) (f .result) (k .result) (x .result) (f .ensures .0) (k .ensures) (x .ensures) (not-false _ (c .before .before .before .if1 .left)) (sym (c .before .before .fitting .ensures) ∙ not-true _ (c .before .if2 .taken)))
 
-kept-requires : tie.Need-kept-requires
-kept-requires c κs = search needs
+least-requires : tie.Need-least-requires
+least-requires c κs = search needs
 
 returns-3 : tie.Need-returns-3
 returns-3 c =
@@ -58,7 +58,7 @@ returns-3 c =
     let x = c .before .before .before .before .before .before .gather in
     let k = c .before .before .before .before .before .before .before .kind-of in
     let f = c .before .before .before .before .before .before .before .before .before .find in
-    rw (c .kept .ensures) (sym (row-read (a .line .now) (f .result) (k .result) (x .result) (f .ensures .0) (k .ensures) (x .ensures) (not-false _ (c .before .before .before .before .if1 .left)) (sym (c .before .before .before .fitting .ensures) ∙ not-false _ (c .before .before .if2 .left))))
+    rw (c .least .ensures) (sym (row-read (a .line .now) (f .result) (k .result) (x .result) (f .ensures .0) (k .ensures) (x .ensures) (not-false _ (c .before .before .before .before .if1 .left)) (sym (c .before .before .before .fitting .ensures) ∙ not-false _ (c .before .before .if2 .left))))
 
 pub read-spec : {M : Type 1} → statement M
 read-spec =
@@ -75,5 +75,5 @@ read-spec =
     fitting-requires
     unreadable-requires-2
     returns-2
-    kept-requires
+    least-requires
     returns-3)

@@ -1,6 +1,6 @@
 -- `protocol::answer::line_of` meets its contract.
 use borrow.Author.Needs.{needs}
-use Rattle.protocol.specs.Lines.{lineWith, no-number}
+use Rattle.protocol.specs.AnswerLines.{lineWith, no-number}
 use Rattle.protocol.proofs.answer.line_of.Statement.{statement}
 use Rattle.protocol.proofs.answer.line_of.Tie as tie
 

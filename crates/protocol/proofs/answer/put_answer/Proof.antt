@@ -1,14 +1,10 @@
 -- `protocol::answer::put_answer` meets its contract.
 use borrow.Author.Needs.{needs}
-use mathlib.Core.Path.{_≡_, ap, subst, _∙_}
-use mathlib.Core.List.{List}
-use denote.Ref.{now}
-use Rattle.planner.specs.Calls.{said}
-use Rattle.protocol.specs.Model.{answerText}
-use Rattle.protocol.specs.Writing.{Wrote}
-use Prim.Native.Nat.{ℕ, _≤_}
+use mathlib.Core.Path.{ap, _∙_}
+use Rattle.text.specs.Writing.{within-same}
+use Prim.Native.Nat.{_≤_}
 use native.Mathlib.Omega.{arith}
-use Rattle.protocol.specs.Lines.{line-text, line-count, textOf}
+use Rattle.protocol.specs.AnswerLines.{line-text, line-count, textOf}
 use Rattle.protocol.proofs.answer.put_answer.Statement.{statement}
 use Rattle.protocol.proofs.answer.put_answer.Tie as tie
 
@@ -29,9 +25,7 @@ returns c =
     let a = c .before .before .before .before .before .before .args in
     let l = c .before .before .before .line-of in
     let p = c .before .before .put in
-    let e : textOf (l .result) ≡ answerText (a .word) (said (a .answer)) = ap textOf (l .ensures) ∙ line-text (a .word) (a .answer) in
-    subst (λ (t : List ℕ). Wrote t (a .at) 160 (now (a .out)) (p .last .0) (p .result)) e
-    (record { place = p .ensures .0; within = p .ensures .1; memory = p .ensures .2 })
+    within-same (ap textOf (l .ensures) ∙ line-text (a .word) (a .answer)) (p .ensures)
 
 pub put-answer-spec : {M : Type 1} → statement M
 put-answer-spec = tie.close (tie.spec line-of-requires put-requires same-length returns)

@@ -6,21 +6,21 @@ use native.Mathlib.Omega.{arith}
 use denote.Ref.{now}
 use lib.ListN.{length, take}
 use Rattle.protocol.specs.Model.{chunkTexts}
-use Rattle.protocol.specs.Lines.{chunk-next}
-use Rattle.protocol.specs.Writing.{Wrote, wrote-none, wrote-length}
+use Rattle.protocol.specs.AnswerLines.{chunk-next}
+use Rattle.text.specs.Writing.{WroteWithin, wrote-none, wrote-length}
 use Rattle.protocol.proofs.answer.put_chunks.Statement.{statement}
 use Rattle.protocol.proofs.answer.put_chunks.Tie as tie
 
 abbrev Inv-loop : tie.InvT-loop
 Inv-loop out₀ at count chunks i₀ place₀ out i place =
-    (i ≤ count) × Wrote (chunkTexts (take i chunks)) at (i * 160) out₀ out place × (length out ≡ length out₀)
+    (i ≤ count) × WroteWithin (i * 160) (chunkTexts (take i chunks)) at out₀ out place × (length out ≡ length out₀)
 
 abbrev μ-loop : tie.MeasureT-loop
 μ-loop out₀ at count chunks i₀ place₀ out i place = count - i
 
 loop-holds : tie.Need-loop-holds Inv-loop μ-loop
 unfolding chunkTexts
-loop-holds c = (omega arith, wrote-none (c .before .args .at) 0 (c .before .args .out .now), refl)
+loop-holds c = (omega arith, record { wrote = wrote-none (c .before .args .at) (c .before .args .out .now); within = omega arith }, refl)
 
 mul-chunk-line : tie.Need-mul-chunk-line Inv-loop μ-loop
 mul-chunk-line c = search needs
@@ -47,11 +47,9 @@ loop-again c =
     let p = c .before .before .put in
     let k = c .before .before .before .chunk-line in
     let w = l .inv .1 .within in
-    let z : Wrote (chunkTexts (take (l .i + 1) (a .t3))) (a .at) ((l .i + 1) * 160) (a .out .now) (p .last .0) (p .result) =
-    chunk-next (a .t3) (l .i) (a .at) _ (a .out .now) (l .out) (p .last .0) (l .place) (p .result) (k .result) (search needs) (omega arith) (k .ensures .1) (l .inv .1)
-    (record { place = p .ensures .0; within = p .ensures .1; memory = p .ensures .2 }) in
-    let y = z .within in
-    (omega arith, z, wrote-length (chunkTexts (take (l .i + 1) (a .t3))) (a .at) ((l .i + 1) * 160) (a .out .now) (p .last .0) (p .result) z (omega arith))
+    let z : WroteWithin ((l .i + 1) * 160) (chunkTexts (take (l .i + 1) (a .t3))) (a .at) (a .out .now) (p .last .0) (p .result) =
+    chunk-next (a .t3) (l .i) _ (k .result) (search needs) (omega arith) (k .ensures .1) (l .inv .1) (p .ensures) in
+    (omega arith, z, wrote-length (z .wrote) (omega (arith, z .within)))
 
 same-length : tie.Need-same-length Inv-loop μ-loop
 same-length c = search needs
@@ -61,7 +59,7 @@ returns c =
     let a = c .before .before .before .args in
     let l = c .before .loop in
     let e : l .i ≡ a .count = omega arith in
-    subst (λ (n : ℕ). Wrote (chunkTexts (take n (a .t3))) (a .at) (n * 160) (now (a .out)) (l .out) (l .place)) e (l .inv .1)
+    subst (λ (n : ℕ). WroteWithin (n * 160) (chunkTexts (take n (a .t3))) (a .at) (now (a .out)) (l .out) (l .place)) e (l .inv .1)
 
 pub put-chunks-spec : {M : Type 1} → statement M
 put-chunks-spec =

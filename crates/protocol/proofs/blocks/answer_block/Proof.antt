@@ -1,12 +1,12 @@
 -- `protocol::blocks::answer_block` meets its contract.
 use borrow.Author.Needs.{needs}
 use mathlib.Core.Path.{_≡_, refl, ap, sym, subst, _∙_}
-use Prim.Native.Nat.{_+_, _-_, _<_}
+use Prim.Native.Nat.{_+_, _-_}
 use native.Mathlib.Omega.{arith}
-use lib.ListN.{length}
-use Rattle.protocol.specs.Model.{ended, unread}
-use Rattle.protocol.specs.Rows.{FarmRow, pendingOf, byRow, rest-row, row-farm}
-use Rattle.protocol.specs.Stepping.{row-none, account-keeps}
+use borrow.Author.Tests.{not-true, not-false}
+use lib.ListN.{length, getD}
+use Rattle.protocol.specs.Model.{ended, unread, accountLine, called}
+use Rattle.protocol.specs.Rows.{FarmRow, pendingOf, byRow, calledBy, rest-row, row-farm, row-turn, row-unread}
 use Rattle.protocol.specs.Blocks.{Going, going-start, going-took, going-rest, going-line}
 use Rattle.protocol.proofs.blocks.answer_block.Statement.{statement}
 use Rattle.protocol.proofs.blocks.answer_block.Tie as tie
@@ -21,7 +21,7 @@ abbrev μ-loop : tie.MeasureT-loop
 returns : tie.Need-returns Inv-loop μ-loop
 returns c =
     let a = c .before .before .before .args in
-    going-took (a .session .farm) (a .session .rest) (a .block .now) (a .from) (a .out .now) (a .session .farm) (a .session .rest) (a .from) 0 (a .out .now) (going-start (a .session .farm) (a .session .rest) (a .block .now) (a .from) (a .out .now)) (λ h. omega arith)
+    going-took (going-start (a .session .farm) (a .session .rest) (a .block .now) (a .from) (a .out .now)) (λ h. omega arith)
 
 sub-last : tie.Need-sub-last Inv-loop μ-loop
 sub-last c = search needs
@@ -33,10 +33,7 @@ same-length : tie.Need-same-length Inv-loop μ-loop
 same-length c = search needs
 
 returns-2 : tie.Need-returns-2 Inv-loop μ-loop
-returns-2 c =
-    let a = c .before .before .before .before .before .before .before .before .args in
-    let l = c .before .before .loop in
-    going-took (a .session .farm) (a .session .rest) (a .block .now) (a .from) (a .out .now) (l .farm) (l .rest) (l .next) (l .at) (l .out) (l .inv .0) (λ h. omega arith)
+returns-2 c = going-took (c .before .before .loop .inv .0) (λ h. omega arith)
 
 find-requires : tie.Need-find-requires Inv-loop μ-loop
 find-requires c κs = omega arith
@@ -49,10 +46,8 @@ same-length-2 c = search needs
 
 returns-3 : tie.Need-returns-3 Inv-loop μ-loop
 returns-3 c =
-    let a = c .before .before .before .before .before .before .before .before .before .before .before .args in
-    let l = c .before .before .before .before .before .loop in
     let w = c .before .with-bytes in
-    going-rest (a .session .farm) (a .session .rest) (a .block .now) (a .from) (a .out .now) (l .farm) (l .rest) (l .next) (l .at) (l .out) (l .inv .0) (c .before .before .find .result) (w .result) (c .before .before .find .ensures .0) (w .ensures) (c .if3 .taken)
+    going-rest (c .before .before .before .before .before .loop .inv .0) (w .result) (c .before .before .find .ensures .0) (w .ensures) (c .if3 .taken)
 
 add-next : tie.Need-add-next Inv-loop μ-loop
 add-next c = search needs
@@ -60,68 +55,75 @@ add-next c = search needs
 row-of-requires : tie.Need-row-of-requires Inv-loop μ-loop
 row-of-requires c κs = search needs
 
+in-turn-requires : tie.Need-in-turn-requires Inv-loop μ-loop
+in-turn-requires c κs = search needs
+
 put-unread-requires : tie.Need-put-unread-requires Inv-loop μ-loop
-put-unread-requires c κs = let g = c .before .before .before .before .before .before .before .before .loop .inv .0 .size in omega arith
+put-unread-requires c κs = let g = c .before .before .before .before .before .before .before .before .before .loop .inv .0 .size in omega arith
 
 loop-less : tie.Need-loop-less Inv-loop μ-loop
 loop-less c = search needs
 
 loop-again : tie.Need-loop-again Inv-loop μ-loop
 loop-again c =
-    let a = c .before .before .before .before .before .before .before .before .before .before .before .before .before .before .before .before .before .args in
-    let l = c .before .before .before .before .before .before .before .before .before .before .before .loop in
-    let w = c .before .before .before .before .before .before .before .with-bytes in
-    let e = c .before .before .before .before .before .before .before .before .find in
-    let o = c .before .before .before .before .before .row-of in
+    let t = c .before .before .before .before .before in
+    let l = t .before .before .before .before .before .before .before .loop in
+    let e = t .before .before .before .before .find in
+    let w = t .before .before .before .with-bytes in
+    let o = t .before .row-of in
     let p = c .before .before .put-unread in
-    let said : ended (l .farm) (pendingOf (w .result)) ≡ unread (l .farm) = rest-row (l .farm) (w .result) ∙ ap (byRow (l .farm)) (sym (o .ensures)) ∙ row-none (l .farm) (o .result) (c .before .before .before .before .if4 .taken) in
-    let in-range : e .result < length (a .block .now) = omega (arith, e .ensures .1, c .before .before .before .before .before .before .if3 .left) in (
-      going-line (a .session .farm) (a .session .rest) (a .block .now) (a .from) (a .out .now) (l .farm) (l .rest) (l .next) (l .at) (l .out) (l .inv .0) (e .result) (w .result) (e .ensures .0) (w .ensures) (unread (l .farm)) (l .farm) _ 160 (p .result) (p .last .0)
-          in-range said refl refl (p .ensures) (omega (arith, p .ensures .within, l .inv .1, c .before .before .before .before .before .before .before .before .before .if2 .left)),
+    let said : ended (l .farm) (pendingOf (w .result)) ≡ unread (l .farm) =
+    rest-row (l .farm) (w .result) ∙ ap (byRow (l .farm)) (sym (o .ensures)) ∙ row-unread (l .farm) (o .result) (sym (t .in-turn .ensures) ∙ not-true _ (c .before .before .before .before .if4 .taken)) in (
+      going-line (l .inv .0) (w .result) (e .ensures .0) (w .ensures) (omega (arith, e .ensures .1, t .before .before .if3 .left)) said refl refl (p .ensures) (omega (arith, p .ensures .within, l .inv .1, t .before .before .before .before .before .if2 .left)),
       l .inv .1,
     )
 
+enum-told : tie.Need-enum-told Inv-loop μ-loop
+enum-told c = search needs
+
+array-read-put-account : tie.Need-array-read-put-account Inv-loop μ-loop
+array-read-put-account c = search needs
+
 put-account-requires : tie.Need-put-account-requires Inv-loop μ-loop
-put-account-requires c κs = let g = c .before .before .before .before .before .before .before .before .before .loop .inv .0 .size in (c .before .if5 .taken, omega arith)
+put-account-requires c κs = let g = c .before .before .before .before .before .before .before .before .before .before .before .before .loop .inv .0 .size in omega arith
 
 loop-less-2 : tie.Need-loop-less-2 Inv-loop μ-loop
 loop-less-2 c = search needs
 
 loop-again-2 : tie.Need-loop-again-2 Inv-loop μ-loop
+unfolding called accountLine
 loop-again-2 c =
-    let a = c .before .before .before .before .before .before .before .before .before .before .before .before .before .before .before .before .before .before .args in
-    let l = c .before .before .before .before .before .before .before .before .before .before .before .before .loop in
-    let w = c .before .before .before .before .before .before .before .before .with-bytes in
-    let e = c .before .before .before .before .before .before .before .before .before .find in
-    let o = c .before .before .before .before .before .before .row-of in
+    let t = c .before .before .before .before .before .before .before .before in
+    let l = t .before .before .before .before .before .before .before .loop in
+    let e = t .before .before .before .before .find in
+    let w = t .before .before .before .with-bytes in
+    let o = t .before .row-of in
     let p = c .before .before .put-account in
-    let said : ended (l .farm) (pendingOf (w .result)) ≡ byRow (l .farm) (o .result) = rest-row (l .farm) (w .result) ∙ ap (byRow (l .farm)) (sym (o .ensures)) in
-    let in-range : e .result < length (a .block .now) = omega (arith, e .ensures .1, c .before .before .before .before .before .before .before .if3 .left) in (
-      going-line (a .session .farm) (a .session .rest) (a .block .now) (a .from) (a .out .now) (l .farm) (l .rest) (l .next) (l .at) (l .out) (l .inv .0) (e .result) (w .result) (e .ensures .0) (w .ensures) (byRow (l .farm) (o .result)) (l .farm) _ 160 (p .result) (p .last .1 .1 .0)
-          in-range said (sym (account-keeps (l .farm) (o .result) (c .before .before .before .before .if5 .taken))) refl (p .ensures) (omega (arith, p .ensures .within, l .inv .1, c .before .before .before .before .before .before .before .before .before .before .if2 .left)),
+    let said : ended (l .farm) (pendingOf (w .result)) ≡ accountLine (l .farm) (getD (o .result .numbers) 0 0) =
+    rest-row (l .farm) (w .result) ∙ ap (byRow (l .farm)) (sym (o .ensures)) ∙ row-turn (l .farm) (o .result) (sym (t .in-turn .ensures) ∙ not-false _ (c .before .before .before .before .before .before .before .if4 .left)) ∙ rw (c .before .before .before .before .before .enum-told .given .1) in (
+      going-line (l .inv .0) (w .result) (e .ensures .0) (w .ensures) (omega (arith, e .ensures .1, t .before .before .if3 .left)) said refl refl (p .ensures) (omega (arith, p .ensures .within, l .inv .1, t .before .before .before .before .before .if2 .left)),
       l .inv .1,
     )
 
 answer-row-requires : tie.Need-answer-row-requires Inv-loop μ-loop
 answer-row-requires c κs =
-    let g = c .before .before .before .before .before .before .before .before .before .loop .inv .0 .size in
-    (subst FarmRow (sym (c .before .before .before .row-of .ensures)) (row-farm (pendingOf (c .before .before .before .before .before .with-bytes .result))), c .before .if5 .left, omega arith)
+    let g = c .before .before .before .before .before .before .before .before .before .before .loop .inv .0 .size in
+    (subst FarmRow (sym (c .before .before .before .before .row-of .ensures)) (row-farm (pendingOf (c .before .before .before .before .before .before .with-bytes .result))), omega arith)
 
 loop-less-3 : tie.Need-loop-less-3 Inv-loop μ-loop
 loop-less-3 c = search needs
 
 loop-again-3 : tie.Need-loop-again-3 Inv-loop μ-loop
 loop-again-3 c =
-    let a = c .before .before .before .before .before .before .before .before .before .before .before .before .before .before .before .before .before .before .before .args in
-    let l = c .before .before .before .before .before .before .before .before .before .before .before .before .before .loop in
-    let w = c .before .before .before .before .before .before .before .before .before .with-bytes in
-    let e = c .before .before .before .before .before .before .before .before .before .before .find in
-    let o = c .before .before .before .before .before .before .before .row-of in
+    let t = c .before .before .before .before .before .before .before in
+    let l = t .before .before .before .before .before .before .before .loop in
+    let e = t .before .before .before .before .find in
+    let w = t .before .before .before .with-bytes in
+    let o = t .before .row-of in
     let p = c .before .before .before .answer-row in
-    let said : ended (l .farm) (pendingOf (w .result)) ≡ byRow (l .farm) (o .result) = rest-row (l .farm) (w .result) ∙ ap (byRow (l .farm)) (sym (o .ensures)) in
-    let in-range : e .result < length (a .block .now) = omega (arith, e .ensures .1, c .before .before .before .before .before .before .before .before .if3 .left) in (
-      going-line (a .session .farm) (a .session .rest) (a .block .now) (a .from) (a .out .now) (l .farm) (l .rest) (l .next) (l .at) (l .out) (l .inv .0) (e .result) (w .result) (e .ensures .0) (w .ensures) (byRow (l .farm) (o .result)) (p .result .farm) _ 164000 (p .result .at) (p .last .1 .1 .0)
-          in-range said (p .ensures .hands) refl (p .ensures .wrote) (omega (arith, p .ensures .wrote .within, l .inv .1, c .before .before .before .before .before .before .before .before .before .before .before .if2 .left)),
+    let said : ended (l .farm) (pendingOf (w .result)) ≡ calledBy (l .farm) (o .result) =
+    rest-row (l .farm) (w .result) ∙ ap (byRow (l .farm)) (sym (o .ensures)) ∙ row-turn (l .farm) (o .result) (sym (t .in-turn .ensures) ∙ not-false _ (c .before .before .before .before .before .before .if4 .left)) in (
+      going-line (l .inv .0) (w .result) (e .ensures .0) (w .ensures) (omega (arith, e .ensures .1, t .before .before .if3 .left)) said (p .ensures .hands) refl (p .ensures .wrote) (omega (arith, p .ensures .wrote .within, l .inv .1, t .before .before .before .before .before .if2 .left)),
       l .inv .1,
     )
 
@@ -129,10 +131,7 @@ same-length-3 : tie.Need-same-length-3 Inv-loop μ-loop
 same-length-3 c = search needs
 
 returns-4 : tie.Need-returns-4 Inv-loop μ-loop
-returns-4 c =
-    let a = c .before .before .before .before .before .before .before .args in
-    let l = c .before .loop in
-    going-took (a .session .farm) (a .session .rest) (a .block .now) (a .from) (a .out .now) (l .farm) (l .rest) (l .next) (l .at) (l .out) (l .inv .0) (λ h. absurd (omega arith))
+returns-4 c = going-took (c .before .loop .inv .0) (λ h. absurd (omega arith))
 
 pub answer-block-spec : {M : Type 1} → statement M
 answer-block-spec =
@@ -151,9 +150,12 @@ answer-block-spec =
     returns-3
     add-next
     row-of-requires
+    in-turn-requires
     put-unread-requires
     loop-less
     loop-again
+    enum-told
+    array-read-put-account
     put-account-requires
     loop-less-2
     loop-again-2

@@ -1,11 +1,10 @@
 -- `protocol::blocks::end_of_input` meets its contract.
 use borrow.Author.Needs.{needs}
-use mathlib.Core.Path.{sym, subst}
-use mathlib.Core.List.{List}
-use Prim.Native.Nat.{ℕ, _≤_}
+use mathlib.Core.Path.{sym}
+use Prim.Native.Nat.{_≤_}
 use native.Mathlib.Omega.{arith}
 use lib.ListN.{length}
-use Rattle.protocol.specs.Writing.{Wrote, wrote-none}
+use Rattle.text.specs.Writing.{wrote-none, wrote-same, within-same}
 use Rattle.protocol.specs.Blocks.{end-small, end-empty, end-line, end-took}
 use Rattle.protocol.proofs.Sizes.{rest-length}
 use Rattle.protocol.proofs.blocks.end_of_input.Statement.{statement}
@@ -14,12 +13,12 @@ use Rattle.protocol.proofs.blocks.end_of_input.Tie as tie
 returns : tie.Need-returns
 returns c =
     let a = c .before .before .before .args in
-    subst (λ (t : List ℕ). Wrote t 0 (length (a .out .now)) (a .out .now) (a .out .now) 0) (sym (end-small (a .session) (length (a .out .now)) (c .if1 .taken))) (wrote-none 0 (length (a .out .now)) (a .out .now))
+    record { wrote = wrote-same (sym (end-small (a .session) (length (a .out .now)) (c .if1 .taken))) (wrote-none 0 (a .out .now)); within = omega arith }
 
 returns-2 : tie.Need-returns-2
 returns-2 c =
     let a = c .before .before .before .before .before .args in
-    subst (λ (t : List ℕ). Wrote t 0 (length (a .out .now)) (a .out .now) (a .out .now) 0) (sym (end-empty (a .session) (length (a .out .now)) (c .if2 .taken))) (wrote-none 0 (length (a .out .now)) (a .out .now))
+    record { wrote = wrote-same (sym (end-empty (a .session) (length (a .out .now)) (c .if2 .taken))) (wrote-none 0 (a .out .now)); within = omega arith }
 
 slice-aggregate-answer-block : tie.Need-slice-aggregate-answer-block
 slice-aggregate-answer-block c = search needs
@@ -36,7 +35,7 @@ returns-3 c =
     let a = z .args in
     let p = c .before .before .answer-block in
     let full : 1 ≤ a .session .rest .fill = omega (arith, c .before .before .before .before .before .if2 .left) in
-    subst (λ (t : List ℕ). Wrote t 0 (length (a .out .now)) (a .out .now) (p .last .1 .1 .1 .0) (p .result .written))
+    within-same
     (sym (end-line (a .session) (length (a .out .now)) (c .before .before .before .before .before .before .before .if1 .left) full (rest-length (a .session) (z .good .0))))
     (end-took (a .session) (a .out .now) (p .last .1 .1 .1 .0) (p .result) (p .ensures) (c .before .before .before .before .before .before .before .if1 .left))
 

@@ -5,7 +5,7 @@ use native.Mathlib.Omega.{arith}
 use lib.ListN.{drop, length-drop}
 use lib.Seq.{length-take-le}
 use Rattle.protocol.specs.Feeding.{stretch}
-use Rattle.protocol.specs.Keeping.{rest-long, rest-over, rest-fits}
+use Rattle.protocol.specs.PendingLine.{rest-long, rest-over, rest-fits}
 use Rattle.protocol.proofs.Sizes.{bytes-length}
 use Rattle.protocol.proofs.kept.with_bytes.Statement.{statement}
 use Rattle.protocol.proofs.kept.with_bytes.Tie as tie

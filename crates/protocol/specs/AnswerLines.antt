@@ -1,5 +1,5 @@
--- The line of an answer, as the crate printing takes it, and the chunk lines of a clock move.
-use mathlib.Core.Path.{_≡_, refl, ap, sym, subst, _∙_}
+-- The line of an answer, as the crate printing takes it, and the chunk lines of a clock move, for src/answer.rt.
+use mathlib.Core.Path.{_≡_, refl, ap, sym, _∙_}
 use mathlib.Core.List.{List, [], _∷_, _++_, append-nil, append-assoc}
 use mathlib.Core.Bool.{Bool, true, false, cond}
 use Prim.Native.Nat.{ℕ, _+_, _*_, _-_, _≤_, _<_}
@@ -16,12 +16,14 @@ use Rattle.planner.specs.declared.Answer.{Answer}
 use Rattle.planner.specs.declared.Question.the-variants as question
 use Rattle.planner.specs.declared.Answer.the-variants as answer
 use Rattle.planner.specs.Calls.{Said, said, numberOf}
-use Rattle.planner.specs.Clock.{issued, moveAsked, moveSaid, moveMemory}
-use Rattle.planner.specs.MoveKept.{move-granted}
+use Rattle.planner.specs.Clock.{issued, moveAsked, moveSaid, moveMemory, moveLines}
+use Rattle.planner.specs.ClockSteps.{move-granted}
+use Rattle.text.specs.Writing.{WroteWithin, wrote-same, wrote-join}
 use Rattle.printing.specs.declared.Line.{Line}
+use Rattle.printing.specs.declared.Word.{Word}
+use Rattle.printing.specs.declared.Word.the-variants as word
 use Rattle.printing.specs.Model.{lineText}
-use Rattle.protocol.specs.Writing.{Wrote, wrote-join}
-use Rattle.protocol.specs.Model.{answerText, chunkText, chunkTexts, moveLines, noWord, clockWord, lent}
+use Rattle.protocol.specs.Model.{answerText, chunkText, chunkTexts, lent}
 
 -- ---- An answer's line
 
@@ -29,11 +31,11 @@ abbrev pub padded : List ℕ → List ℕ
 padded vs = vs ++ replicate (7 - length vs) 0
 
 -- its word and values where it was granted, else `no` and the number
-unfoldable pub lineWith : ℕ → Said → Line
+unfoldable pub lineWith : Word → Said → Line
 lineWith w s =
     cond (eqb (s .number) 0)
     (record { word = w; count = length (s .values); numbers = padded (s .values) })
-    (record { word = noWord; count = 1; numbers = padded (s .number ∷ []) })
+    (record { word = word.No; count = 1; numbers = padded (s .number ∷ []) })
 
 abbrev pub textOf : Line → List ℕ
 textOf l = lineText (l .word) (take (l .count) (l .numbers))
@@ -51,7 +53,7 @@ no-number question.Time = refl
 no-number question.Lines = refl
 no-number question.Farm = refl
 
-pub line-text : (w : ℕ) (a : Answer) → textOf (lineWith w (said a)) ≡ answerText w (said a)
+pub line-text : (w : Word) (a : Answer) → textOf (lineWith w (said a)) ≡ answerText w (said a)
 unfolding lineWith answerText
 line-text w (answer.Open n s) = refl
 line-text w (answer.Yes j s t k) = refl
@@ -60,7 +62,7 @@ line-text w (answer.Shown n) = refl
 line-text w (answer.Account s h c) = refl
 line-text w (answer.No q) = rw (no-number q)
 
-pub line-count : (w : ℕ) (a : Answer) → lineWith w (said a) .count ≤ 7
+pub line-count : (w : Word) (a : Answer) → lineWith w (said a) .count ≤ 7
 unfolding lineWith
 line-count w (answer.Open n s) = omega arith
 line-count w (answer.Yes j s t k) = omega arith
@@ -71,20 +73,19 @@ line-count w (answer.No q) = rw (no-number q) (omega arith)
 
 -- ---- The chunk lines of a clock move
 
--- how many chunk lines stand before a clock line: as many as it says, none before `no`
+-- how many chunk lines stand before the line of a clock move: its second number, 0 in a refusal
 abbrev pub chunksBefore : Line → ℕ
-chunksBefore l = cond (eqb (l .word) clockWord) (getD (l .numbers) 1 0) 0
+chunksBefore l = getD (l .numbers) 1 0
 
-pub lines-said : (f : Farm) (t : ℕ) → chunksBefore (lineWith clockWord (moveSaid f t lent)) ≡ length (moveLines f t)
-unfolding lineWith moveSaid moveLines
+pub lines-said : (f : Farm) (t : ℕ) → chunksBefore (lineWith word.Clock (moveSaid f t lent)) ≡ length (moveLines f t lent)
+unfolding lineWith moveSaid
 lines-said f t = go (eqb (moveAsked f t lent) 0) refl
   where
-    go : (b : Bool) → eqb (moveAsked f t lent) 0 ≡ b → chunksBefore (lineWith clockWord (moveSaid f t lent)) ≡ length (moveLines f t)
+    go : (b : Bool) → eqb (moveAsked f t lent) 0 ≡ b → chunksBefore (lineWith word.Clock (moveSaid f t lent)) ≡ length (moveLines f t lent)
     go true e = rw e
     go false e = rw (e, e)
 
-pub few-lines : (f : Farm) (t : ℕ) → length (moveLines f t) ≤ lent
-unfolding moveLines
+pub few-lines : (f : Farm) (t : ℕ) → length (moveLines f t lent) ≤ lent
 few-lines f t = go (eqb (moveAsked f t lent) 0) refl
   where
     go : (b : Bool) → eqb (moveAsked f t lent) 0 ≡ b → length (cond b (issued f t) []) ≤ lent
@@ -92,8 +93,8 @@ few-lines f t = go (eqb (moveAsked f t lent) 0) refl
     go false e = omega arith
 
 -- the lines stand at the front of the lent memory
-pub lines-front : (f : Farm) (t : ℕ) (m : List Chunk) → length m ≡ lent → take (length (moveLines f t)) (moveMemory f t m) ≡ moveLines f t
-unfolding moveLines moveMemory
+pub lines-front : (f : Farm) (t : ℕ) (m : List Chunk) → length m ≡ lent → take (length (moveLines f t lent)) (moveMemory f t m) ≡ moveLines f t lent
+unfolding moveMemory
 lines-front f t m h = rw h (go (eqb (moveAsked f t lent) 0))
   where
     go : (b : Bool) → take (length (cond b (issued f t) [])) (cond b (issued f t ++ drop (length (issued f t)) m) m) ≡ cond b (issued f t) []
@@ -107,10 +108,9 @@ texts-snoc [] x = append-nil (chunkText x)
 texts-snoc (y ∷ xs) x = ap (λ (l : List ℕ). chunkText y ++ l) (texts-snoc xs x) ∙ sym (append-assoc (chunkText y) (chunkTexts xs) (chunkText x))
 
 -- One chunk line more is written.
-pub chunk-next : (xs : List Chunk) (i at : ℕ) (d : Chunk) (e x y : List ℕ) (r s : ℕ) (l : Line) → i < length xs → r ≤ length e → textOf l ≡ chunkText (getD xs i d)
-    → Wrote (chunkTexts (take i xs)) at (i * 160) e x r → Wrote (textOf l) r 160 x y s → Wrote (chunkTexts (take (i + 1) xs)) at ((i + 1) * 160) e y s
-chunk-next xs i at d e x y r s l h k t a b =
+pub chunk-next : (xs : List Chunk) (i : ℕ) (d : Chunk) (l : Line) {at : ℕ} {e x y : List ℕ} {r s : ℕ} → i < length xs → r ≤ length e → textOf l ≡ chunkText (getD xs i d)
+    → WroteWithin (i * 160) (chunkTexts (take i xs)) at e x r → WroteWithin 160 (textOf l) r x y s → WroteWithin ((i + 1) * 160) (chunkTexts (take (i + 1) xs)) at e y s
+chunk-next xs i d l h k t a b =
     let more : chunkTexts (take i xs) ++ textOf l ≡ chunkTexts (take (i + 1) xs) =
     ap (λ (z : List ℕ). chunkTexts (take i xs) ++ z) t ∙ sym (rw (add-one i, take-suc xs i d h) (texts-snoc (take i xs) (getD xs i d))) in
-    subst (λ (z : List ℕ). Wrote z at ((i + 1) * 160) e y s) more
-    (wrote-join (chunkTexts (take i xs)) at (i * 160) e x r a k (textOf l) 160 ((i + 1) * 160) y s b (omega (arith, a .within, b .within)))
+    record { wrote = wrote-same more (wrote-join (a .wrote) k (b .wrote)); within = omega (arith, a .within, b .within) }

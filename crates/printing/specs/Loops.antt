@@ -1,62 +1,16 @@
--- A text written into bytes at a place, and what a run of such writes is.
+-- What each turn of the loops keeps: the digits of a number, its places, and numbers behind tabs.
 use mathlib.Core.Path.{_≡_, refl, sym, ap, _∙_, subst}
 use mathlib.Core.List.{List, [], _∷_, _++_, append-assoc, append-nil}
 use Prim.Native.Nat.{ℕ, suc, _+_, _-_, _/_, _%_, _≤_, _<_}
 use native.Mathlib.Numerals.{add-one}
 use native.Mathlib.Omega.{arith}
 use borrow.Author.Tests.{le-leb, lt-leb}
-use lib.ListN.{length, getD, take, drop, set, length-append, length-take, length-drop, length-set, take-append-drop}
-use lib.Seq.{take-at, drop-at, drop-drop, set-split, take-suc, take-set-le, drop-cons, drop-set-lt, getD-set-same, take-take}
-use Rattle.printing.specs.Model.{digits, decimal, reached, tabbed, tab}
+use lib.ListN.{length, getD, take, drop, set, length-set, take-append-drop}
+use lib.Seq.{take-suc, take-set-le, drop-cons, drop-set-lt, getD-set-same, take-take}
+use Rattle.text.specs.Model.{tab}
+use Rattle.text.specs.Writing.{Wrote}
+use Rattle.printing.specs.Model.{digits, decimal, reached, tabbed}
 use Rattle.printing.specs.Decimal.{digits-length}
-
--- the text stands from place `at` to place r, and every other byte is as before
-pub record Puts (text before : List ℕ) (at : ℕ) (after : List ℕ) (r : ℕ) : Type 0 where
-  pub place : r ≡ at + length text
-  pub bytes : after ≡ take at before ++ (text ++ drop r before)
-
--- Nothing is written.
-pub puts-none : (s : List ℕ) (at : ℕ) → Puts [] s at s at
-puts-none s at = record { place = omega arith; bytes = sym (take-append-drop at s) }
-
-front-length : (t s : List ℕ) (at r : ℕ) → r ≡ at + length t → r ≤ length s → length (take at s ++ t) ≡ r
-front-length t s at r e h = simp (length-append, length-take) (omega arith)
-
--- What is written of a text is written of an equal one.
-pub puts-same : {t u s s′ : List ℕ} {at r : ℕ} → t ≡ u → Puts t s at s′ r → Puts u s at s′ r
-puts-same {s = s} {s′ = s′} {at = at} {r = r} e p = subst (λ (t : List ℕ). Puts t s at s′ r) e p
-
--- A write keeps the length.
-pub puts-length : {t s s′ : List ℕ} {at r : ℕ} → Puts t s at s′ r → r ≤ length s → length s′ ≡ length s
-puts-length {t} {s} {s′} {at} {r} p h = ap length (p .bytes) ∙ simp (length-append, length-take, length-drop) (omega (arith, p .place))
-
--- A text and then another behind it is both put together.
-pub puts-then : {t u s s′ s″ : List ℕ} {at r r′ : ℕ} → Puts t s at s′ r → Puts u s′ r s″ r′ → r′ ≤ length s → Puts (t ++ u) s at s″ r′
-puts-then {t} {u} {s} {s′} {s″} {at} {r} {r′} p q h =
-    let l : length (take at s ++ t) ≡ r = front-length t s at r (p .place) (omega (arith, q .place)) in
-    let e : s′ ≡ (take at s ++ t) ++ drop r s = p .bytes ∙ sym (append-assoc (take at s) t (drop r s)) in
-    let front : take r s′ ≡ take at s ++ t = ap (take r) e ∙ take-at (take at s ++ t) (drop r s) r l in
-    let rest : drop r s′ ≡ drop r s = ap (drop r) e ∙ drop-at (take at s ++ t) (drop r s) r l in
-    let back : drop r′ s′ ≡ drop r′ s =
-    ap (λ (n : ℕ). drop n s′) (q .place) ∙ sym (drop-drop (length u) r s′) ∙ ap (drop (length u)) rest ∙ drop-drop (length u) r s
-    ∙ ap (λ (n : ℕ). drop n s) (sym (q .place)) in
-    record {
-      place = omega (arith, p .place, q .place, length-append t u);
-      bytes = q .bytes ∙ rw (front, back) (simp append-assoc);
-    }
-
--- A store is a text of one byte.
-pub puts-byte : (s : List ℕ) (i a : ℕ) → i < length s → Puts (a ∷ []) s i (set s i a) (i + 1)
-puts-byte s i a h = record { place = refl; bytes = rw (set-split s i a h, add-one i) }
-
--- A copy of a text, one byte further.
-pub puts-next : (text s s′ : List ℕ) (at i : ℕ) → i < length text → at + length text ≤ length s → Puts (take i text) s at s′ (at + i)
-    → Puts (take (i + 1) text) s at (set s′ (at + i) (getD text i 0)) (at + (i + 1))
-puts-next text s s′ at i h k p =
-    let l : length s′ ≡ length s = puts-length p (omega arith) in
-    let q = puts-then p (puts-byte s′ (at + i) (getD text i 0) (omega arith)) (omega arith) in
-    let e : at + (i + 1) ≡ at + i + 1 = omega arith in
-    rw (e, add-one i, take-suc text i 0 h) q
 
 -- ---- Digits, from the last to the first
 
@@ -95,7 +49,7 @@ spelled-turn n k s s′ at rest i z h p =
     spelled-next n k s s′ at rest (i - 1) (omega arith) (subst (λ (m : ℕ). Spelled n k s at rest m s′) e p)
 
 -- With all digits written the text stands.
-pub spelled-all : (n k : ℕ) (s s′ : List ℕ) (at rest i : ℕ) → i ≡ 0 → Spelled n k s at rest i s′ → Puts (digits k n) s at s′ (at + k)
+pub spelled-all : (n k : ℕ) (s s′ : List ℕ) (at rest i : ℕ) → i ≡ 0 → Spelled n k s at rest i s′ → Wrote (digits k n) at s s′ (at + k)
 unfolding digits
 spelled-all n k s s′ at rest i z p =
     let e : at + i ≡ at = omega arith in
@@ -105,7 +59,7 @@ spelled-all n k s s′ at rest i z p =
     let b : drop at s′ ≡ digits k n ++ drop (at + k) s = subst (λ (m : ℕ). drop m s′ ≡ digits k n ++ drop (at + k) s) e g in
     record {
       place = omega (arith, digits-length k n);
-      bytes = sym (take-append-drop at s′) ∙ rw (f, b);
+      memory = sym (take-append-drop at s′) ∙ rw (f, b);
     }
 
 -- ---- Places of a number

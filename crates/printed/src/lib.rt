@@ -1,0 +1,1 @@
+// What a whole day prints, in theorems above the crate protocol: specs/ only, and nothing that runs.
