@@ -24,8 +24,7 @@ use walk::Busy;
 use walk::Job;
 use walk::Plan;
 use walk::Terms;
-use walk::Time;
-use walk::by_time;
+use walk::by_deadline;
 use walk::finish_of;
 use walk::walked;
 
@@ -225,7 +224,7 @@ fn walk_with(farm: Farm, job: Job) -> Plan
     let waiting = farm.waiting;
     let mut jobs = farm.jobs;
     jobs[waiting] = job;
-    let ordered = by_time(jobs, waiting + 1, Time::Deadline);
+    let ordered = by_deadline(jobs, waiting + 1);
     let costs = farm.costs;
     let terms = Terms {
         costs,

@@ -25,8 +25,7 @@ use timetable::lines::write_lines;
 use walk::Busy;
 use walk::Chunk;
 use walk::Job;
-use walk::Time;
-use walk::by_time;
+use walk::by_start;
 
 // What a call comes to: the first `count` jobs, whose lines it writes, and its reply.
 pub struct Issue {
@@ -107,7 +106,7 @@ fn moving(farm: Farm, time: u64, room: usize) -> Issue
     if !any_begins(jobs, waiting, time) {
         return unbegun(farm, time);
     }
-    let ordered = by_time(jobs, waiting, Time::Start);
+    let ordered = by_start(jobs, waiting);
     let count = begun(ordered, waiting, time);
     let lines = line_count(ordered, count);
     if room < lines {
@@ -136,7 +135,7 @@ fn showing(farm: Farm, room: usize) -> Issue
     }
     let waiting = farm.waiting;
     let jobs = farm.jobs;
-    let ordered = by_time(jobs, waiting, Time::Start);
+    let ordered = by_start(jobs, waiting);
     let total = line_count(ordered, waiting);
     if room < total {
         return stopped(farm, Question::Lines);

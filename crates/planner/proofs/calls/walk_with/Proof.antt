@@ -14,11 +14,11 @@ mul-jobs c = search needs
 array-set-from-jobs : tie.Need-array-set-from-jobs
 array-set-from-jobs c = search needs
 
-add-by-time : tie.Need-add-by-time
-add-by-time c = search needs
+add-by-deadline : tie.Need-add-by-deadline
+add-by-deadline c = search needs
 
-by-time-requires : tie.Need-by-time-requires
-by-time-requires c κs = search needs
+by-deadline-requires : tie.Need-by-deadline-requires
+by-deadline-requires c κs = search needs
 
 add-walked : tie.Need-add-walked
 add-walked c = search needs
@@ -27,14 +27,14 @@ walked-requires : tie.Need-walked-requires
 walked-requires c κs =
     let a = c .before .before .before .before .args in
     let p = c .before .before .before .before .pre in
-    let o = ordered-is (a .farm) (a .job) (c .before .before .by-time .result) (omega (arith, p .waiting, jobs-length (a .farm) (c .before .before .before .before .good .0))) (c .before .before .by-time .ensures) in
+    let o = ordered-is (a .farm) (a .job) (c .before .before .by-deadline .result) (omega (arith, p .waiting, jobs-length (a .farm) (c .before .before .before .before .good .0))) (c .before .before .by-deadline .ensures) in
     (omega (arith, p .waiting), rw (o .0) (walk-ready (a .farm) (a .job) p))
 
 returns : tie.Need-returns
 returns c =
     let a = c .before .before .before .before .before .args in
     let p = c .before .before .before .before .before .pre in
-    let o = ordered-is (a .farm) (a .job) (c .before .before .before .by-time .result) (omega (arith, p .waiting, jobs-length (a .farm) (c .before .before .before .before .before .good .0))) (c .before .before .before .by-time .ensures) in
+    let o = ordered-is (a .farm) (a .job) (c .before .before .before .by-deadline .result) (omega (arith, p .waiting, jobs-length (a .farm) (c .before .before .before .before .before .good .0))) (c .before .before .before .by-deadline .ensures) in
     record {
       books = c .walked .ensures .books ∙ ap (booksAll (termsOf (a .farm)) (busyOf (a .farm))) (o .0);
       plans = λ e. c .walked .ensures .plans e ∙ rw (o .0, o .1);
@@ -46,8 +46,8 @@ walk-with-spec =
     (tie.spec
     mul-jobs
     array-set-from-jobs
-    add-by-time
-    by-time-requires
+    add-by-deadline
+    by-deadline-requires
     add-walked
     walked-requires
     returns)

@@ -61,8 +61,8 @@ returns-3 c =
     unbegun-issues f (a .time) (omega (arith, waiting-few f sized passed, sized .jobs)) (none-by (a .time) (waitingOf f) (sym (c .before .before .any-begins .ensures) ∙ not-true _ (c .before .if3 .taken)))
     (a .room) (c .unbegun .result) passed (sym (c .before .before .before .before .before .between .ensures) ∙ not-false _ (c .before .before .before .before .if2 .left)) (c .unbegun .ensures)
 
-by-time-requires : tie.Need-by-time-requires
-by-time-requires c κs =
+by-start-requires : tie.Need-by-start-requires
+by-start-requires c κs =
     let z = c .before .before .before .before .before .before .before in
     let f = z .args .farm in
     let sized = farm-sized f (z .good .0) in
@@ -83,7 +83,7 @@ line-count-requires c κs =
     let f = z .args .farm in
     let sized = farm-sized f (z .good .0) in
     let passed : passesOf f ≡ true = sym (c .before .before .before .before .before .before .before .before .passes .ensures) ∙ not-false _ (c .before .before .before .before .before .before .before .if1 .left) in
-    let begins = begins-of f sized passed (c .before .by-time .result) (c .before .by-time .ensures) (z .args .time) (c .begun .result) (c .begun .ensures .0) (c .begun .ensures .1) in
+    let begins = begins-of f sized passed (c .before .by-start .result) (c .before .by-start .ensures) (z .args .time) (c .begun .result) (c .begun .ensures .0) (c .begun .ensures .1) in
     begins-few begins
 
 stopped-requires-3 : tie.Need-stopped-requires-3
@@ -95,7 +95,7 @@ returns-4 c =
     let f = z .args .farm in
     let sized = farm-sized f (z .good .0) in
     let passed : passesOf f ≡ true = sym (c .before .before .before .before .before .before .before .before .before .before .before .passes .ensures) ∙ not-false _ (c .before .before .before .before .before .before .before .before .before .before .if1 .left) in
-    let begins = begins-of f sized passed (c .before .before .before .before .by-time .result) (c .before .before .before .before .by-time .ensures) (z .args .time) (c .before .before .before .begun .result) (c .before .before .before .begun .ensures .0) (c .before .before .before .begun .ensures .1) in
+    let begins = begins-of f sized passed (c .before .before .before .before .by-start .result) (c .before .before .before .before .by-start .ensures) (z .args .time) (c .before .before .before .begun .result) (c .before .before .before .begun .ensures .0) (c .before .before .before .begun .ensures .1) in
     let a = z .args in
     let more : a .room < length (issued f (a .time)) = omega (arith, begun-lines f _ _ (a .time) begins, c .before .before .line-count .ensures .0, c .before .if4 .taken) in
     move-stops f (a .time) (a .room) 9 _ (c .stopped3 .result) (c .stopped3 .ensures)
@@ -107,7 +107,7 @@ moved-requires c κs =
     let f = z .args .farm in
     let sized = farm-sized f (z .good .0) in
     let passed : passesOf f ≡ true = sym (c .before .before .before .before .before .before .before .before .before .before .passes .ensures) ∙ not-false _ (c .before .before .before .before .before .before .before .before .before .if1 .left) in
-    let begins = begins-of f sized passed (c .before .before .before .by-time .result) (c .before .before .before .by-time .ensures) (z .args .time) (c .before .before .begun .result) (c .before .before .begun .ensures .0) (c .before .before .begun .ensures .1) in
+    let begins = begins-of f sized passed (c .before .before .before .by-start .result) (c .before .before .before .by-start .ensures) (z .args .time) (c .before .before .begun .result) (c .before .before .begun .ensures .0) (c .before .before .begun .ensures .1) in
     begins
 
 returns-5 : tie.Need-returns-5
@@ -116,7 +116,7 @@ returns-5 c =
     let f = z .args .farm in
     let sized = farm-sized f (z .good .0) in
     let passed : passesOf f ≡ true = sym (c .before .before .before .before .before .before .before .before .before .before .before .passes .ensures) ∙ not-false _ (c .before .before .before .before .before .before .before .before .before .before .if1 .left) in
-    let begins = begins-of f sized passed (c .before .before .before .before .by-time .result) (c .before .before .before .before .by-time .ensures) (z .args .time) (c .before .before .before .begun .result) (c .before .before .before .begun .ensures .0) (c .before .before .before .begun .ensures .1) in
+    let begins = begins-of f sized passed (c .before .before .before .before .by-start .result) (c .before .before .before .before .by-start .ensures) (z .args .time) (c .before .before .before .begun .result) (c .before .before .before .begun .ensures .0) (c .before .before .before .begun .ensures .1) in
     let a = z .args in
     let fits : length (issued f (a .time)) ≤ a .room = omega (arith, begun-lines f _ _ (a .time) begins, c .before .before .line-count .ensures .0, c .before .if4 .left) in
     move-goes f (a .time) (a .room) _ _ _ _ begins (move-asked f (a .time) (a .room) passed (sym (c .before .before .before .before .before .before .before .before .before .between .ensures) ∙ not-false _ (c .before .before .before .before .before .before .before .before .if2 .left)) (le-leb (length (issued f (a .time))) (a .room) fits)) (c .before .before .line-count .ensures .0) (c .moved .ensures)
@@ -134,7 +134,7 @@ moving-spec =
     any-begins-requires
     unbegun-requires
     returns-3
-    by-time-requires
+    by-start-requires
     begun-requires
     line-count-requires
     stopped-requires-3

@@ -26,8 +26,8 @@ returns c =
     let a = c .before .before .before .args in
     show-stops (a .farm) (a .room) 10 _ (c .stopped .result) (c .stopped .ensures) (shown-unsound (a .farm) (a .room) (sym (c .before .before .passes .ensures) ∙ not-true _ (c .before .if1 .taken))) refl
 
-by-time-requires : tie.Need-by-time-requires
-by-time-requires c κs =
+by-start-requires : tie.Need-by-start-requires
+by-start-requires c κs =
     let z = c .before .before .before in
     let f = z .args .farm in
     let sized = farm-sized f (z .good .0) in
@@ -41,9 +41,9 @@ line-count-requires c κs =
     let sized = farm-sized f (z .good .0) in
     let passed : passesOf f ≡ true = sym (c .before .before .before .passes .ensures) ∙ not-false _ (c .before .before .if1 .left) in
     let few = waiting-few f sized passed in
-    let front = ordered-front f (c .by-time .result) sized few (c .by-time .ensures) in
+    let front = ordered-front f (c .by-start .result) sized few (c .by-start .ensures) in
     let ready = subst (All (CanBegin f)) (sym front) (by-start-can-begin f sized passed) in
-    (few, can-begin-few f (take (f .waiting) (c .by-time .result)) ready)
+    (few, can-begin-few f (take (f .waiting) (c .by-start .result)) ready)
 
 stopped-requires-2 : tie.Need-stopped-requires-2
 stopped-requires-2 c κs = search needs
@@ -55,7 +55,7 @@ returns-2 c =
     let sized = farm-sized f (z .good .0) in
     let passed : passesOf f ≡ true = sym (c .before .before .before .before .before .before .passes .ensures) ∙ not-false _ (c .before .before .before .before .before .if1 .left) in
     let few = waiting-few f sized passed in
-    let front = ordered-front f (c .before .before .before .by-time .result) sized few (c .before .before .before .by-time .ensures) in
+    let front = ordered-front f (c .before .before .before .by-start .result) sized few (c .before .before .before .by-start .ensures) in
     let ready = subst (All (CanBegin f)) (sym front) (by-start-can-begin f sized passed) in
     let more : z .args .room < length (shown f) = omega (arith, shown-lines f _ front ready, c .before .before .line-count .ensures .0, c .before .if2 .taken) in
     show-stops f (z .args .room) 9 _ (c .stopped2 .result) (c .stopped2 .ensures) (shown-unheld f (z .args .room) passed (lt-leb (length (shown f)) (z .args .room) more)) refl
@@ -67,7 +67,7 @@ returns-3 c =
     let sized = farm-sized f (z .good .0) in
     let passed : passesOf f ≡ true = sym (c .before .before .before .before .before .passes .ensures) ∙ not-false _ (c .before .before .before .before .if1 .left) in
     let few = waiting-few f sized passed in
-    let front = ordered-front f (c .before .before .by-time .result) sized few (c .before .before .by-time .ensures) in
+    let front = ordered-front f (c .before .before .by-start .result) sized few (c .before .before .by-start .ensures) in
     let ready = subst (All (CanBegin f)) (sym front) (by-start-can-begin f sized passed) in
     let fits : length (shown f) ≤ z .args .room = omega (arith, shown-lines f _ front ready, c .before .line-count .ensures .0, c .if2 .left) in
     show-goes f (z .args .room) _ _ few front ready (shown-asked f (z .args .room) passed (le-leb (length (shown f)) (z .args .room) fits)) (c .before .line-count .ensures .0)
@@ -79,7 +79,7 @@ showing-spec =
     passes-requires
     stopped-requires
     returns
-    by-time-requires
+    by-start-requires
     line-count-requires
     stopped-requires-2
     returns-2
