@@ -34,7 +34,7 @@ use Rattle.planner.specs.Model.{between, costsWithin, Span, linesOf, spansOf, s
 use Rattle.planner.specs.Passes.{passesOf}
 use Rattle.walk.specs.Chain.{Fits, Chain, chain-append, Proper, free-same, free-other, after-length, chain-apart}
 use Rattle.walk.specs.Order.{by-start-perm, by-deadline-perm}
-use Rattle.walk.specs.Booked.{BestAll, walk-best}
+use Rattle.walk.specs.BestWalk.{BestAll, walk-best}
 use Rattle.planner.specs.CallsSteps.{walk-ready}
 use Rattle.soundness.specs.Sweep.{spans-all, spans-perm, apart-sym}
 use Rattle.demands.specs.QuestionEleven.{passes-iff}

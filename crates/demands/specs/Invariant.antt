@@ -28,7 +28,7 @@ use Rattle.planner.specs.Calls.{openedWith, showsWithin, openFarm, heldBy, newJ
 use Rattle.demands.specs.OfferPasses.{all-replicate, opens-with, open-sized, open-passes, waiting-planned, accepted-sized, accepted-passes}
 use Rattle.planner.specs.Clock.{begun, left, issued, movedFarm}
 use Rattle.demands.specs.CallLists.{Call, offer, move, Accepted, History, opening, note, run, heldOf, upTo, acceptedOf}
-use Rattle.timetable.specs.Begin.{afters-append}
+use Rattle.timetable.specs.BeginSteps.{afters-append}
 use Rattle.demands.specs.BegunJobs.{begun-left, spans-append, chunkOf, spans-chunks}
 use Rattle.demands.specs.HeldTicks.{afters-within, sum-within, held-part, held-append, held-free, raised-held}
 use Rattle.demands.specs.MovePasses.{Waiting, moved-chain, begun-jobs, moved-waiting, moved-sized, moved-passes}

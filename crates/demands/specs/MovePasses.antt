@@ -21,11 +21,11 @@ use Rattle.walk.specs.Order.{by-start-perm}
 use Rattle.soundness.specs.Sweep.{spans-each, spans-all, spans-perm, apart-sym}
 use Rattle.soundness.specs.Sound.{Paired, job-paired, fits-behind, job-spans}
 use Rattle.demands.specs.QuestionEleven.{passes-iff}
-use Rattle.timetable.specs.Lines.{lines-length}
+use Rattle.timetable.specs.LinesSteps.{lines-length}
 use Rattle.limits.specs.Tests.{and-both}
 use Rattle.planner.specs.Clock.{startsBy, startsAfter, begun, left, linesOfAll, issued, movedFarm}
 use Rattle.timetable.specs.Keep.{keep-all, keep-length}
-use Rattle.timetable.specs.Raise.{raised-length}
+use Rattle.timetable.specs.HeldSteps.{raised-length}
 use Rattle.demands.specs.BegunJobs.{later, begun-later, later-left, begun-left, spans-append, spans-chunks}
 use Rattle.demands.specs.JobNumbers.{numberOfJob}
 

@@ -29,8 +29,8 @@ use Rattle.soundness.specs.Sound.{JobKept, Behind, Paired, fits-behind, job-spa
 use Rattle.demands.specs.QuestionEleven.{passes-iff}
 use Rattle.limits.specs.Tests.{and-both}
 use Rattle.planner.specs.PassesSteps.{passes-within, passes-jobs}
-use Rattle.walk.specs.Walk.{best-sends}
-use Rattle.walk.specs.Booked.{BestAll, walk-best}
+use Rattle.walk.specs.WalkSteps.{best-sends}
+use Rattle.walk.specs.BestWalk.{BestAll, walk-best}
 use Rattle.walk.specs.Plan.{plan-chain, plan-all, plan-numbers, plan-length}
 use Rattle.planner.specs.CallsSteps.{walk-ready}
 use Rattle.demands.specs.Offers.{Granted, asked-granted}

@@ -9,7 +9,7 @@ use borrow.Author.Tests.{ne-eqb}
 use lib.Dec.{leb, ltb}
 use lib.ListN.{length}
 use Rattle.limits.specs.Says.{between-is}
-use Rattle.walk.specs.Booked.{BestAll, Fails, walk-is}
+use Rattle.walk.specs.BestWalk.{BestAll, Fails, walk-is}
 use Rattle.planner.specs.declared.Farm.{Farm}
 use Rattle.planner.specs.Model.{greatest, between, Between, termsOf, busyOf}
 use Rattle.planner.specs.Passes.{passesOf}

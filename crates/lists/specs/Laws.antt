@@ -3,8 +3,10 @@ use mathlib.Core.Path.{_≡_, refl, ap, sym, subst, subst₂, _∙_}
 use mathlib.Core.List.{List, [], _∷_, _++_, map, List·Memᴰ, List·Memᴰ·head, List·Memᴰ·tail, List·Memᴰ·not-nil, List·Memᴰ·cases-cons, List·Permᴰ, List·Permᴰ·nil, List·Permᴰ·cons, List·Permᴰ·swap, List·Permᴰ·trans}
 use mathlib.Core.Logic.{_⊎_, inl, inr, ⊎-elim}
 use Prim.Native.Nat.{ℕ, zero, suc, _+_, _-_, _≤_, _<_}
+use native.Mathlib.Numerals.{add-one}
 use native.Mathlib.Omega.{arith}
-use lib.ListN.{length, getD, take}
+use lib.ListN.{length, getD, take, drop, drop-of-length-le}
+use lib.Seq.{drop-cons, getD-take, length-take-le}
 
 -- P of every element
 abbrev pub All : {A : Type 0} → (A → Type 0) → List A → Type 0
@@ -36,6 +38,13 @@ all-front d P [] n i h l a = absurd (omega arith)
 all-front d P (x ∷ xs) zero i h l a = absurd (omega arith)
 all-front d P (x ∷ xs) (suc n) zero h l a = a .0
 all-front d P (x ∷ xs) (suc n) (suc i) h l a = all-front d P xs n i (omega arith) (omega arith) (a .1)
+
+-- A front of n, from place i on: the next, and none at the end.
+pub front-next : {A : Type 0} (d : A) (xs : List A) (n i : ℕ) → i < n → n ≤ length xs → drop i (take n xs) ≡ getD xs i d ∷ drop (i + 1) (take n xs)
+front-next d xs n i h l = rw (add-one i, drop-cons (take n xs) i d (omega (arith, length-take-le n xs l)), getD-take n xs i d h)
+
+pub front-none : {A : Type 0} (xs : List A) (n i : ℕ) → n ≤ length xs → n ≤ i → drop i (take n xs) ≡ []
+front-none xs n i l h = drop-of-length-le (take n xs) {i = i} (omega (arith, length-take-le n xs l))
 
 -- P of two at once
 pub all-both : {A : Type 0} {P Q R : A → Type 0} → ((x : A) → P x → Q x → R x) → (xs : List A) → All P xs → All Q xs → All R xs

@@ -18,8 +18,8 @@ use Rattle.booking.specs.Model.{bookingOf}
 use Rattle.walk.specs.declared.Job.{Job}
 use Rattle.walk.specs.Order.{by-deadline-perm}
 use Rattle.walk.specs.Chunks.{Sends}
-use Rattle.walk.specs.Walk.{Ready}
-use Rattle.walk.specs.Booked.{walk-best}
+use Rattle.walk.specs.WalkSteps.{Ready}
+use Rattle.walk.specs.BestWalk.{walk-best}
 use Rattle.walk.specs.Plan.{plan-length, plan-sends}
 use Rattle.planner.specs.declared.Farm.{Farm}
 use Rattle.planner.specs.declared.Reply.{Reply}

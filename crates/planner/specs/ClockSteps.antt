@@ -16,8 +16,8 @@ use Rattle.walk.specs.declared.Busy.{Busy}
 use Rattle.walk.specs.declared.Chunk.{Chunk}
 use Rattle.walk.specs.Order.{by-start-perm, by-start-grows}
 use Rattle.walk.specs.Chunks.{Sends}
-use Rattle.timetable.specs.Begin.{starting, chunks, Few, RaisesAll}
-use Rattle.timetable.specs.Lines.{all-lines}
+use Rattle.timetable.specs.BeginSteps.{starting, chunks, Few, RaisesAll}
+use Rattle.timetable.specs.LinesSteps.{all-lines}
 use Rattle.timetable.specs.Keep.{keep-all, keep-none, keep-every}
 use Rattle.limits.specs.Says.{between-is}
 use Rattle.soundness.specs.Sound.{JobKept}

@@ -12,7 +12,7 @@ use borrow.Fn.Kinds.{PK, In, Out}
 use Rattle.lists.specs.Laws.{All}
 use Rattle.walk.specs.Chunks.{Sends}
 use Rattle.timetable.specs.Model.{linesOfAll}
-use Rattle.timetable.specs.Begin.{chunks}
+use Rattle.timetable.specs.BeginSteps.{chunks}
 use Rattle.timetable.proofs.Chunks as slice
 use Rattle.timetable.proofs.Structs as S
 use Rattle.timetable.proofs.Value.{param}

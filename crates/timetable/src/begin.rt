@@ -7,7 +7,7 @@ ghost use Rattle.lists.specs.Laws.{All};
 ghost use Rattle.walk.specs.Model.{afters, spansOf, spansOfAll};
 ghost use Rattle.walk.specs.Chunks.{Sends};
 ghost use Rattle.timetable.specs.Model.{keep, startsAfter, linesOfAll, raised};
-ghost use Rattle.timetable.specs.Begin.{anyBy, starting, chunks, Few, Raises, RaisesAll};
+ghost use Rattle.timetable.specs.BeginSteps.{anyBy, starting, chunks, Few, Raises, RaisesAll};
 use shares::Costs;
 use walk::Busy;
 use walk::Job;

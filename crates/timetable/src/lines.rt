@@ -7,7 +7,7 @@ ghost use Rattle.lists.specs.Laws.{All};
 ghost use Rattle.walk.specs.Model.{linesOf};
 ghost use Rattle.walk.specs.Chunks.{Sends};
 ghost use Rattle.timetable.specs.Model.{linesOfAll};
-ghost use Rattle.timetable.specs.Begin.{chunks};
+ghost use Rattle.timetable.specs.BeginSteps.{chunks};
 use shares::Costs;
 use walk::Chunk;
 use walk::Job;

@@ -2,9 +2,9 @@
 pub mod Model
 pub mod Order
 pub mod Chain
-pub mod Rows
+pub mod OrderSteps
 pub mod Chunks
-pub mod Walk
-pub mod Ranks
-pub mod Booked
+pub mod WalkSteps
+pub mod NodeOrder
+pub mod BestWalk
 pub mod Plan

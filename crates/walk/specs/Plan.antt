@@ -18,8 +18,8 @@ use Rattle.walk.specs.declared.Chunk.{Chunk}
 use Rattle.walk.specs.Model.{greatest, chunkOn, chunksFrom, linesOf, spansFrom, spansOf, spansOfAll, after, afters, requestOf, step, busyAfter, plan}
 use Rattle.walk.specs.Chain.{Fits, Chain, chain-job, free-other, afters-length}
 use Rattle.walk.specs.Chunks.{Sends}
-use Rattle.walk.specs.Walk.{best-sends}
-use Rattle.walk.specs.Booked.{BestAll}
+use Rattle.walk.specs.WalkSteps.{best-sends}
+use Rattle.walk.specs.BestWalk.{BestAll}
 
 -- ---- The plan in walk order
 

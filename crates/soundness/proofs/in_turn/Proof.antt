@@ -5,7 +5,7 @@ use native.Mathlib.Omega.{arith}
 use lib.ListN.{length}
 use Rattle.walk.specs.declared.Job.{Job}
 use Rattle.walk.specs.Model.{startOf, spansOfAll, fitAll}
-use Rattle.walk.specs.Rows.{ordered-inside, ordered-whole}
+use Rattle.walk.specs.OrderSteps.{ordered-inside, ordered-whole}
 use borrow.Author.Needs.{needs}
 use Rattle.soundness.proofs.in_turn.Statement.{statement}
 use Rattle.soundness.proofs.in_turn.Tie as tie

@@ -5,7 +5,7 @@ use Prim.Native.Nat.{_≤_, _<_}
 use native.Mathlib.Omega.{arith}
 use borrow.Author.Tests.{not-true, not-false, le-leb, lt-leb}
 use lib.ListN.{length}
-use Rattle.timetable.specs.Begin.{none-by}
+use Rattle.timetable.specs.BeginSteps.{none-by}
 use Rattle.planner.specs.Model.{waitingOf}
 use Rattle.planner.specs.Passes.{passesOf}
 use Rattle.planner.specs.Clock.{issued}

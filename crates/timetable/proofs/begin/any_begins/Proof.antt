@@ -3,7 +3,8 @@ use mathlib.Core.Path.{_≡_, refl, sym, _∙_}
 use Prim.Native.Nat.{_-_, _≤_}
 use native.Mathlib.Omega.{arith}
 use lib.ListN.{take, drop}
-use Rattle.timetable.specs.Begin.{anyBy, any-more, any-stop, jobs-none}
+use Rattle.lists.specs.Laws.{front-none}
+use Rattle.timetable.specs.BeginSteps.{anyBy, any-more, any-stop}
 use borrow.Author.Needs.{needs}
 use Rattle.timetable.proofs.begin.any_begins.Statement.{statement}
 use Rattle.timetable.proofs.begin.any_begins.Tie as tie
@@ -46,7 +47,7 @@ unfolding anyBy
 returns-2 c =
     let a = c .before .before .args in
     let l = c .before .loop in
-    sym (l .inv .1 ∙ rw (jobs-none (a .t1) (a .count) (l .i) (omega arith) (c .loop-test .left)))
+    sym (l .inv .1 ∙ rw (front-none (a .t1) (a .count) (l .i) (omega arith) (c .loop-test .left)))
 
 pub any-begins-spec : {M : Type 1} → statement M
 any-begins-spec =

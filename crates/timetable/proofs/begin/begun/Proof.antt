@@ -3,7 +3,8 @@ use mathlib.Core.Path.{_≡_, _∙_}
 use Prim.Native.Nat.{_+_, _-_, _≤_}
 use native.Mathlib.Omega.{arith}
 use lib.ListN.{take, drop}
-use Rattle.timetable.specs.Begin.{starting, starting-more, starting-stop, jobs-none}
+use Rattle.lists.specs.Laws.{front-none}
+use Rattle.timetable.specs.BeginSteps.{starting, starting-more, starting-stop}
 use borrow.Author.Needs.{needs}
 use Rattle.timetable.proofs.begin.begun.Statement.{statement}
 use Rattle.timetable.proofs.begin.begun.Tie as tie
@@ -48,7 +49,7 @@ unfolding starting
 returns-2 c =
     let a = c .before .before .args in
     let l = c .before .loop in
-    let none = jobs-none (a .t1) (a .count) (l .i) (omega arith) (c .loop-test .left) in
+    let none = front-none (a .t1) (a .count) (l .i) (omega arith) (c .loop-test .left) in
     let e : starting (a .time) (take (a .count) (a .t1)) ≡ l .i + 0 = l .inv .1 ∙ rw none in
     (omega arith, omega arith)
 

@@ -5,10 +5,11 @@ use mathlib.Core.Logic.{⊎-elim}
 use Prim.Native.Nat.{_-_, _≤_}
 use native.Mathlib.Omega.{arith}
 use lib.ListN.{getD, take, drop}
+use Rattle.lists.specs.Laws.{front-none}
 use Rattle.walk.specs.declared.Job.{Job}
 use Rattle.walk.specs.Model.{noJob}
 use Rattle.timetable.specs.Model.{keep, startsAfter}
-use Rattle.timetable.specs.Begin.{Kept, kept-more, kept-all, keep-next, keep-past, jobs-none}
+use Rattle.timetable.specs.BeginSteps.{Kept, kept-more, kept-all, keep-next, keep-past}
 use borrow.Author.Needs.{needs}
 use Rattle.timetable.proofs.begin.left.Statement.{statement}
 use Rattle.timetable.proofs.begin.left.Tie as tie
@@ -63,7 +64,7 @@ unfolding keep
 returns c =
     let a = c .before .before .args in
     let l = c .before .loop in
-    let none = jobs-none (a .t1) (a .count) (l .i) (omega arith) (c .loop-test .left) in
+    let none = front-none (a .t1) (a .count) (l .i) (omega arith) (c .loop-test .left) in
     let whole = keep (startsAfter (a .time)) (take (a .count) (a .t1)) in
     let x = subst (λ (js : List Job). Kept whole (a .t1) (l .out) (l .kept) (keep (startsAfter (a .time)) js)) none (l .inv .2) in
     let e = kept-all whole (a .t1) (l .out) (l .kept) (omega arith) x in

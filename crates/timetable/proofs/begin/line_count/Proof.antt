@@ -3,9 +3,9 @@ use mathlib.Core.Path.{_≡_, _∙_}
 use Prim.Native.Nat.{_+_, _*_, _-_, _≤_}
 use native.Mathlib.Omega.{arith}
 use lib.ListN.{take, drop}
-use Rattle.lists.specs.Laws.{all-front}
+use Rattle.lists.specs.Laws.{front-none, all-front}
 use Rattle.walk.specs.Model.{noJob}
-use Rattle.timetable.specs.Begin.{chunks, chunks-next, Few, jobs-none}
+use Rattle.timetable.specs.BeginSteps.{chunks, chunks-next, Few}
 use borrow.Author.Needs.{needs}
 use Rattle.timetable.proofs.begin.line_count.Statement.{statement}
 use Rattle.timetable.proofs.begin.line_count.Tie as tie
@@ -51,7 +51,7 @@ unfolding chunks
 returns c =
     let a = c .before .before .args in
     let l = c .before .loop in
-    let none = jobs-none (a .t1) (a .count) (l .i) (omega arith) (c .loop-test .left) in
+    let none = front-none (a .t1) (a .count) (l .i) (omega arith) (c .loop-test .left) in
     let e : chunks (take (a .count) (a .t1)) ≡ l .lines + 0 = l .inv .1 ∙ rw none in
     (omega arith, omega arith)
 

@@ -3,11 +3,11 @@ use mathlib.Core.Path.{_≡_, refl, sym, _∙_}
 use Prim.Native.Nat.{_-_, _≤_}
 use native.Mathlib.Omega.{arith}
 use lib.ListN.{take, drop}
-use Rattle.lists.specs.Laws.{all-front}
+use Rattle.lists.specs.Laws.{front-none, all-front}
 use Rattle.walk.specs.Model.{noJob, afters}
 use Rattle.walk.specs.Chunks.{Sends}
 use Rattle.timetable.specs.Model.{linesOfAll}
-use Rattle.timetable.specs.Begin.{afters-next, jobs-none}
+use Rattle.timetable.specs.BeginSteps.{afters-next}
 use borrow.Author.Needs.{needs}
 use Rattle.timetable.proofs.begin.occupied_by.Statement.{statement}
 use Rattle.timetable.proofs.begin.occupied_by.Tie as tie
@@ -50,7 +50,7 @@ unfolding linesOfAll afters
 returns c =
     let a = c .before .before .args in
     let l = c .before .loop in
-    let none = jobs-none (a .t3) (a .count) (l .i) (omega arith) (c .loop-test .left) in
+    let none = front-none (a .t3) (a .count) (l .i) (omega arith) (c .loop-test .left) in
     sym (l .inv .1 ∙ rw none)
 
 pub occupied-by-spec : {M : Type 1} → statement M

@@ -5,12 +5,11 @@ use mathlib.Core.List.{List}
 use Prim.Native.Nat.{ℕ, _+_, _*_, _-_, _≤_}
 use native.Mathlib.Omega.{arith}
 use lib.ListN.{length, getD, take, drop}
-use Rattle.lists.specs.Laws.{all-front}
+use Rattle.lists.specs.Laws.{front-none, all-front}
 use Rattle.walk.specs.Model.{noJob, spansOfAll}
 use Rattle.walk.specs.Chunks.{Sends}
 use Rattle.timetable.specs.Model.{raised}
-use Rattle.timetable.specs.Begin.{jobs-none}
-use Rattle.timetable.specs.Raise.{job-most, raised-next, raises-next}
+use Rattle.timetable.specs.HeldSteps.{job-most, raised-next, raises-next}
 use borrow.Author.Needs.{needs}
 use Rattle.timetable.proofs.begin.raised_all.Statement.{statement}
 use Rattle.timetable.proofs.begin.raised_all.Tie as tie
@@ -66,7 +65,7 @@ unfolding spansOfAll raised
 returns c =
     let a = c .before .before .args in
     let l = c .before .loop in
-    let none = jobs-none (a .t3) (a .count) (l .i) (omega arith) (c .loop-test .left) in
+    let none = front-none (a .t3) (a .count) (l .i) (omega arith) (c .loop-test .left) in
     (sym (l .inv .2 ∙ rw none), l .inv .1)
 
 pub raised-all-spec : {M : Type 1} → statement M

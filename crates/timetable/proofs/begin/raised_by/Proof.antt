@@ -7,7 +7,7 @@ use Rattle.walk.specs.declared.Chunk.{Chunk}
 use Rattle.walk.specs.Model.{placed}
 use Rattle.walk.specs.Chunks.{lines-none, ends-next, chunk-fits}
 use Rattle.timetable.specs.Model.{raised}
-use Rattle.timetable.specs.Raise.{Raising, raising-next}
+use Rattle.timetable.specs.HeldSteps.{Raising, raising-next}
 use borrow.Author.Needs.{needs}
 use Rattle.timetable.proofs.begin.raised_by.Statement.{statement}
 use Rattle.timetable.proofs.begin.raised_by.Tie as tie

@@ -18,7 +18,7 @@ use Rattle.walk.specs.declared.Job.{Job}
 use Rattle.walk.specs.declared.Chunk.{Chunk}
 use Rattle.walk.specs.Model.{greatest}
 use Rattle.walk.specs.Chunks.{Sends, linesFrom, latestFrom, ends-next, chunk-fits}
-use Rattle.timetable.specs.Lines.{Filled, job-next, job-written}
+use Rattle.timetable.specs.LinesSteps.{Filled, job-next, job-written}
 use Rattle.timetable.proofs.WriteJob.{ps, Pre, Post}
 use Rattle.timetable.proofs.Chunks as slice
 use Rattle.timetable.proofs.Structs as S

@@ -31,8 +31,8 @@ use Rattle.walk.specs.declared.Chunk.{Chunk}
 use Rattle.walk.specs.Model.{noJob, linesOf}
 use Rattle.walk.specs.Chunks.{Sends}
 use Rattle.timetable.specs.Model.{linesOfAll}
-use Rattle.timetable.specs.Begin.{chunks, chunks-next}
-use Rattle.timetable.specs.Lines.{Filled, stored-next, all-stored, chunks-none, filled-length, job-lines}
+use Rattle.timetable.specs.BeginSteps.{chunks, chunks-next}
+use Rattle.timetable.specs.LinesSteps.{Filled, stored-next, all-stored, chunks-none, filled-length, job-lines}
 use Rattle.timetable.proofs.WriteJob as job
 use Rattle.timetable.proofs.WriteLines.{ps, Pre, Post}
 use Rattle.timetable.proofs.Chunks as slice

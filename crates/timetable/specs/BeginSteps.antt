@@ -6,16 +6,16 @@ use Prim.Native.Nat.{ℕ, suc, _+_, _-_, _≤_, _<_}
 use native.Mathlib.Numerals.{add-one}
 use native.Mathlib.Omega.{arith}
 use borrow.Author.Tests.{le-leb, lt-leb}
-use lib.ListN.{length, getD, take, drop, set, length-set, drop-of-length-le, take-append-drop}
-use lib.Seq.{drop-cons, getD-take, length-take-le, take-suc-set}
-use Rattle.lists.specs.Laws.{All}
+use lib.ListN.{length, getD, take, drop, set, length-set, take-append-drop}
+use lib.Seq.{length-take-le, take-suc-set}
+use Rattle.lists.specs.Laws.{All, front-next}
 use Rattle.shares.specs.declared.Costs.{Costs}
 use Rattle.walk.specs.declared.Job.{Job}
 use Rattle.walk.specs.declared.Busy.{Busy}
 use Rattle.walk.specs.declared.Chunk.{Chunk}
 use Rattle.walk.specs.Model.{noJob, linesOf, afters}
 use Rattle.walk.specs.Chunks.{Sends}
-use Rattle.walk.specs.Rows.{rest-more}
+use Rattle.walk.specs.OrderSteps.{rest-more}
 use Rattle.timetable.specs.Model.{startsBy, startsAfter, keep, linesOfAll}
 
 -- how many jobs at the front of a list start by t
@@ -56,13 +56,9 @@ unfolding afters
 afters-append b [] ys = refl
 afters-append b (x ∷ xs) ys = afters-append _ xs ys
 
--- None is left at the end.
-pub jobs-none : (jobs : List Job) (n i : ℕ) → n ≤ length jobs → n ≤ i → drop i (take n jobs) ≡ []
-jobs-none jobs n i f h = drop-of-length-le (take n jobs) {i = i} (omega (arith, length-take-le n jobs f))
-
 module _ (jobs : List Job) (n i : ℕ) (h : i < n) (f : n ≤ length jobs) where
-  pub jobs-next : drop i (take n jobs) ≡ getD jobs i noJob ∷ drop (i + 1) (take n jobs)
-  jobs-next = rw (add-one i, drop-cons (take n jobs) i noJob (omega (arith, length-take-le n jobs f)), getD-take n jobs i noJob h)
+  abbrev jobs-next : drop i (take n jobs) ≡ getD jobs i noJob ∷ drop (i + 1) (take n jobs)
+  jobs-next = front-next noJob jobs n i h f
 
   -- It starts by t, or not.
   pub starting-more : (t : ℕ) → getD jobs i noJob .booking .start ≤ t → starting t (drop i (take n jobs)) ≡ suc (starting t (drop (i + 1) (take n jobs)))

@@ -22,7 +22,7 @@ use Rattle.walk.specs.declared.Busy.{Busy}
 use Rattle.walk.specs.Model.{greatest, linesOf, byDeadline, deadlineOf, requestOf, step, busyAfter, plan, booksAll}
 use Rattle.walk.specs.Chain.{afters-length}
 use Rattle.walk.specs.Order.{Precedes, by-deadline-perm, by-deadline-sorted}
-use Rattle.walk.specs.Walk.{Ready}
+use Rattle.walk.specs.WalkSteps.{Ready}
 
 -- each job has the best of all choices behind those before it
 abbrev pub BestAll : Terms → Busy → List Job → Type 0

@@ -5,7 +5,7 @@ use Prim.Native.Nat.{ℕ, zero, suc, _+_, _*_, _-_, _≤_, _<_}
 use native.Mathlib.Omega.{arith}
 use lib.ListN.{length, getD, take, drop, set, length-set}
 use lib.Seq.{getD-set-same}
-use Rattle.lists.specs.Laws.{all-front}
+use Rattle.lists.specs.Laws.{all-front, front-next}
 use Rattle.shares.specs.declared.Costs.{Costs}
 use Rattle.shares.specs.Model.{sendEnd, chunkFinish, finish}
 use Rattle.booking.specs.Best.{chosen, units}
@@ -14,7 +14,7 @@ use Rattle.walk.specs.declared.Chunk.{Chunk}
 use Rattle.walk.specs.Model.{greatest, noJob, chunkAt, chunksFrom, Span, placed, spansFrom, spansOf, spansOfAll}
 use Rattle.walk.specs.Chunks.{Sends, linesFrom, latestFrom, lines-next, ends-next}
 use Rattle.timetable.specs.Model.{raised}
-use Rattle.timetable.specs.Begin.{Raises, RaisesAll, jobs-next}
+use Rattle.timetable.specs.BeginSteps.{Raises, RaisesAll}
 
 -- a cell with more in it
 abbrev pub addTo : List ℕ → ℕ → ℕ → List ℕ
@@ -88,7 +88,7 @@ raising-next c j s first cells t i h k x =
 pub raised-next : (c : Costs) (jobs : List Job) (n i : ℕ) → i < n → n ≤ length jobs → (hs : List ℕ)
     → raised hs (spansOfAll c (drop i (take n jobs))) ≡ raised (raised hs (spansOf c (getD jobs i noJob))) (spansOfAll c (drop (i + 1) (take n jobs)))
 unfolding spansOfAll
-raised-next c jobs n i h f hs = rw (jobs-next jobs n i h f) (raised-append hs (spansOf c (getD jobs i noJob)) _)
+raised-next c jobs n i h f hs = rw (front-next noJob jobs n i h f) (raised-append hs (spansOf c (getD jobs i noJob)) _)
 
 -- A job that comes behind fewer than 128 others can begin.
 pub raises-next : (c : Costs) (held cells : List ℕ) (jobs : List Job) (n i : ℕ) → i < n → n ≤ 128 → n ≤ length jobs → RaisesAll c held (take n jobs)

@@ -4,9 +4,9 @@ use mathlib.Core.List.{List, [], _∷_, _++_, append-assoc}
 use Prim.Native.Nat.{ℕ, suc, _+_, _-_, _≤_, _<_}
 use native.Mathlib.Numerals.{add-one}
 use native.Mathlib.Omega.{arith}
-use lib.ListN.{length, getD, take, drop, set, length-append, length-drop, take-append-drop, drop-of-length-le}
+use lib.ListN.{length, getD, take, drop, set, length-append, length-drop, take-append-drop}
 use lib.Seq.{take-suc-set, drop-set-lt, drop-drop, length-take-le, take-at, drop-at}
-use Rattle.lists.specs.Laws.{All, all-front}
+use Rattle.lists.specs.Laws.{All, all-front, front-next, front-none}
 use Rattle.shares.specs.declared.Costs.{Costs}
 use Rattle.shares.specs.Model.{sendEnd}
 use Rattle.walk.specs.declared.Job.{Job}
@@ -15,7 +15,7 @@ use Rattle.walk.specs.Model.{noJob, chunkAt, chunksFrom, linesOf}
 use Rattle.walk.specs.Chunks.{Sends, linesFrom, lines-none, lines-next}
 use Rattle.booking.specs.Best.{chosen, units}
 use Rattle.timetable.specs.Model.{linesOfAll}
-use Rattle.timetable.specs.Begin.{chunks, jobs-next}
+use Rattle.timetable.specs.BeginSteps.{chunks}
 
 -- memory of which the first n records stand, then come these lines, and from place e on it is what it is
 abbrev pub Filled : List Chunk → ℕ → List Chunk → ℕ → List Chunk
@@ -90,14 +90,14 @@ module _ (c : Costs) (jobs : List Job) (n k : ℕ) (h : k < n) (f : n ≤ length
       ≡ Filled (Filled l at (linesOf c next) (at + next .booking .count)) (at + next .booking .count) (linesOfAll c (drop (k + 1) (take n jobs))) e
   unfolding linesOfAll
   stored-next l at e a b d =
-      ap (λ (js : List Job). Filled l at (linesOfAll c js) e) (jobs-next jobs n k h f)
+      ap (λ (js : List Job). Filled l at (linesOfAll c js) e) (front-next noJob jobs n k h f)
       ∙ filled-more l (linesOf c next) (linesOfAll c (drop (k + 1) (take n jobs))) at (next .booking .count) e (job-lines c next (all-front noJob (Sends c) jobs n k h f a)) b d
 
 pub all-stored : (c : Costs) (jobs : List Job) (n k : ℕ) (l : List Chunk) (e : ℕ) → n ≤ k → n ≤ length jobs → Filled l e (linesOfAll c (drop k (take n jobs))) e ≡ l
 unfolding linesOfAll
 all-stored c jobs n k l e h f =
-    ap (λ (js : List Job). Filled l e (linesOfAll c js) e) (drop-of-length-le (take n jobs) {i = k} (omega (arith, length-take-le n jobs f))) ∙ filled-all l e
+    ap (λ (js : List Job). Filled l e (linesOfAll c js) e) (front-none jobs n k f h) ∙ filled-all l e
 
 pub chunks-none : (jobs : List Job) (n k : ℕ) → n ≤ k → n ≤ length jobs → chunks (drop k (take n jobs)) ≡ 0
 unfolding chunks
-chunks-none jobs n k h f = ap chunks (drop-of-length-le (take n jobs) {i = k} (omega (arith, length-take-le n jobs f)))
+chunks-none jobs n k h f = ap chunks (front-none jobs n k f h)
