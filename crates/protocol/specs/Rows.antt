@@ -17,7 +17,7 @@ use Rattle.reading.specs.declared.Kind.{Kind}
 use Rattle.reading.specs.declared.Kind.the-variants as kind
 use Rattle.reading.specs.Model.{fields, othersOf, fits, lineKind, readable, allNumbers, numbersOf, rowWith, rowOf}
 use Rattle.protocol.specs.declared.Rest.{Rest}
-use Rattle.protocol.specs.Model.{Answered, unread, farmLine, jobLine, clockLine, accountLine, inTurn, called, recorded, answered, longest, Pending, part, long, ended}
+use Rattle.protocol.specs.Model.{Answered, unread, farmLine, jobLine, clockLine, accountLine, inTurn, ifInTurn, called, recorded, answered, longest, Pending, part, long, ended}
 
 -- ---- Rows
 
@@ -40,7 +40,7 @@ calledBy f r = called f (r .kind) (r .numbers) (allowancesIn r)
 
 -- the answer of a row
 unfoldable pub byRow : Farm → Row → Answered
-byRow f r = cond (inTurn (r .kind) (f .opened)) (calledBy f r) (unread f)
+byRow f r = ifInTurn f (r .kind) (calledBy f r)
 
 -- the row of a farm has its nodes and costs
 abbrev pub FarmRow : Row → Type 0
