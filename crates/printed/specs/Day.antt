@@ -18,24 +18,24 @@ use Rattle.printed.specs.Model.{linesIn, answers, dayText}
 
 -- ---- Bytes in front of the first line
 
-unfoldable led : List ℕ → List (List ℕ) → List (List ℕ)
-led [] ls = ls
-led (b ∷ q) ls = onFirst b (led q ls)
+unfoldable prefixed : List ℕ → List (List ℕ) → List (List ℕ)
+prefixed [] ls = ls
+prefixed (b ∷ q) ls = onFirst b (prefixed q ls)
 
-led-cons : (q l : List ℕ) (ls : List (List ℕ)) → led q (l ∷ ls) ≡ (q ++ l) ∷ ls
-unfolding led
-led-cons [] l ls = refl
-led-cons (b ∷ q) l ls = ap (onFirst b) (led-cons q l ls)
+prefixed-cons : (q l : List ℕ) (ls : List (List ℕ)) → prefixed q (l ∷ ls) ≡ (q ++ l) ∷ ls
+unfolding prefixed
+prefixed-cons [] l ls = refl
+prefixed-cons (b ∷ q) l ls = ap (onFirst b) (prefixed-cons q l ls)
 
-led-nil : (b : ℕ) (q : List ℕ) → led (b ∷ q) [] ≡ (b ∷ q) ∷ []
-unfolding led
-led-nil b [] = refl
-led-nil b (c ∷ q) = ap (onFirst b) (led-nil c q)
+prefixed-nil : (b : ℕ) (q : List ℕ) → prefixed (b ∷ q) [] ≡ (b ∷ q) ∷ []
+unfolding prefixed
+prefixed-nil b [] = refl
+prefixed-nil b (c ∷ q) = ap (onFirst b) (prefixed-nil c q)
 
-led-on : (q : List ℕ) (b : ℕ) (ls : List (List ℕ)) → led q (onFirst b ls) ≡ led (q ++ b ∷ []) ls
-unfolding led
-led-on [] b ls = refl
-led-on (c ∷ q) b ls = ap (onFirst c) (led-on q b ls)
+prefixed-on : (q : List ℕ) (b : ℕ) (ls : List (List ℕ)) → prefixed q (onFirst b ls) ≡ prefixed (q ++ b ∷ []) ls
+unfolding prefixed
+prefixed-on [] b ls = refl
+prefixed-on (c ∷ q) b ls = ap (onFirst c) (prefixed-on q b ls)
 
 -- ---- A line kept byte by byte
 
@@ -53,11 +53,11 @@ ended-kept f q = go (leb (length q) longest) refl
     go true e = ap (ended f) (kept-fits [] q (omega (arith, leb-true (length q) longest e)))
     go false e = ap (ended f) (kept-over [] q (omega arith) (omega (arith, leb-false (length q) longest e))) ∙ rw e
 
-at-end-kept : (f : Farm) (q : List ℕ) → atEnd f (keptAll (part []) q) ≡ answers f (led q [])
-unfolding answers answered led keptAll
+at-end-kept : (f : Farm) (q : List ℕ) → atEnd f (keptAll (part []) q) ≡ answers f (prefixed q [])
+unfolding answers answered prefixed keptAll
 at-end-kept f [] = refl
 at-end-kept f (b ∷ q) =
-    go (leb (length (b ∷ q)) longest) refl ∙ sym (append-nil (answered f (b ∷ q) .text)) ∙ ap (answers f) (sym (led-nil b q))
+    go (leb (length (b ∷ q)) longest) refl ∙ sym (append-nil (answered f (b ∷ q) .text)) ∙ ap (answers f) (sym (prefixed-nil b q))
   where
     go : (t : Bool) → leb (length (b ∷ q)) longest ≡ t → atEnd f (keptAll (part []) (b ∷ q)) ≡ answered f (b ∷ q) .text
     go true e = ap (atEnd f) (kept-fits [] (b ∷ q) (omega (arith, leb-true (length (b ∷ q)) longest e)))
@@ -70,29 +70,29 @@ abbrev pub whole : Fed → List ℕ
 whole x = x .text ++ atEnd (x .farm) (x .pending)
 
 day-ends : (f : Farm) (q bs : List ℕ) (p : Pending) → ended f p ≡ answered f q → ((g : Farm) → whole (feed g (part []) bs) ≡ answers g (linesIn bs))
-    → whole (behind (ended f p .text) (feed (ended f p .farm) (part []) bs)) ≡ answers f (led q ([] ∷ linesIn bs))
+    → whole (behind (ended f p .text) (feed (ended f p .farm) (part []) bs)) ≡ answers f (prefixed q ([] ∷ linesIn bs))
 unfolding answers
 day-ends f q bs p e h =
     append-assoc (ended f p .text) (feed (ended f p .farm) (part []) bs .text) _
     ∙ ap (λ (l : List ℕ). ended f p .text ++ l) (h (ended f p .farm))
     ∙ ap (λ (x : Answered). x .text ++ answers (x .farm) (linesIn bs)) e
-    ∙ ap (answers f) (sym (led-cons q [] (linesIn bs) ∙ ap (λ (l : List ℕ). l ∷ linesIn bs) (append-nil q)))
+    ∙ ap (answers f) (sym (prefixed-cons q [] (linesIn bs) ∙ ap (λ (l : List ℕ). l ∷ linesIn bs) (append-nil q)))
 
-day-from : (f : Farm) (q bs : List ℕ) → whole (feed f (keptAll (part []) q) bs) ≡ answers f (led q (linesIn bs))
-unfolding feed linesIn keptAll led
+day-from : (f : Farm) (q bs : List ℕ) → whole (feed f (keptAll (part []) q) bs) ≡ answers f (prefixed q (linesIn bs))
+unfolding feed linesIn keptAll prefixed
 day-from f q [] = at-end-kept f q
 day-from f q (b ∷ bs) = go (eqb b newline) (λ (g : Farm). day-from g [] bs) (day-from f (q ++ b ∷ []) bs)
   where
     go : (t : Bool) → ((g : Farm) → whole (feed g (part []) bs) ≡ answers g (linesIn bs))
-        → whole (feed f (keptAll (part []) (q ++ b ∷ [])) bs) ≡ answers f (led (q ++ b ∷ []) (linesIn bs))
+        → whole (feed f (keptAll (part []) (q ++ b ∷ [])) bs) ≡ answers f (prefixed (q ++ b ∷ []) (linesIn bs))
         → whole (cond t (behind (ended f (keptAll (part []) q) .text) (feed (ended f (keptAll (part []) q) .farm) (part []) bs)) (feed f (kept (keptAll (part []) q) b) bs))
-        ≡ answers f (led q (cond t ([] ∷ linesIn bs) (onFirst b (linesIn bs))))
+        ≡ answers f (prefixed q (cond t ([] ∷ linesIn bs) (onFirst b (linesIn bs))))
     go true h k = day-ends f q bs (keptAll (part []) q) (ended-kept f q) h
-    go false h k = ap (λ (p : Pending). whole (feed f p bs)) (kept-snoc (part []) q b) ∙ k ∙ ap (answers f) (sym (led-on q b (linesIn bs)))
+    go false h k = ap (λ (p : Pending). whole (feed f p bs)) (kept-snoc (part []) q b) ∙ k ∙ ap (answers f) (sym (prefixed-on q b (linesIn bs)))
 
 -- Feeding a whole input from an unopened farm and ending it prints the answers of its lines.
 pub day-text : (bs : List ℕ) → whole (feed unopened (part []) bs) ≡ dayText bs
-unfolding keptAll led
+unfolding keptAll prefixed
 day-text bs = day-from unopened [] bs
 
 -- ---- In blocks

@@ -18,7 +18,7 @@ unfolding valueFrom
 value-last a [] d = refl
 value-last a (x ∷ ds) d = value-last (a * 10 + (x - 48)) ds d
 
--- As many digits as hold a number say that number.
+-- As many digits as a number needs have its value.
 digits-value : (k n : ℕ) → n < 10 ^ k → valueFrom 0 (digits k n) ≡ n
 unfolding digits valueFrom
 digits-value zero n h = omega arith
@@ -104,7 +104,7 @@ decimal-holds n h =
     let e : 1 + reached n (tens 1 19) ≡ suc (reached n powers) = ap (λ (ps : List ℕ). 1 + reached n ps) (sym powers-tens) ∙ omega arith in
     subst (λ (m : ℕ). n < 10 ^ m) e r
 
--- The decimal of a number below 2⁶⁴ says that number.
+-- The decimal of a number below 2⁶⁴ has its value.
 pub decimal-value : (n : ℕ) → n < 2 ^ 64 → value (decimal n) ≡ n
 unfolding decimal
 decimal-value n h = digits-value (suc (reached n powers)) n (decimal-holds n h)

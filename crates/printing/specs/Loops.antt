@@ -15,18 +15,18 @@ use Rattle.printing.specs.Decimal.{digits-length}
 -- ---- Digits, from the last to the first
 
 -- What is written so far: the bytes before place at + i are as they were, and the digits from there on stand.
-pub record Spelled (n k : ℕ) (before : List ℕ) (at rest i : ℕ) (now : List ℕ) : Type 0 where
+pub record WroteDigits (n k : ℕ) (before : List ℕ) (at rest i : ℕ) (now : List ℕ) : Type 0 where
   pub front : take (at + i) now ≡ take (at + i) before
   pub back : digits i rest ++ drop (at + i) now ≡ digits k n ++ drop (at + k) before
 
-pub spelled-none : (n k : ℕ) (s : List ℕ) (at : ℕ) → Spelled n k s at n k s
-spelled-none n k s at = record { front = refl; back = refl }
+pub digits-none : (n k : ℕ) (s : List ℕ) (at : ℕ) → WroteDigits n k s at n k s
+digits-none n k s at = record { front = refl; back = refl }
 
 -- One digit more, at place at + j.
-spelled-next : (n k : ℕ) (s s′ : List ℕ) (at rest j : ℕ) → at + (j + 1) ≤ length s′ → Spelled n k s at rest (j + 1) s′
-    → Spelled n k s at (rest / 10) j (set s′ (at + j) (48 + rest % 10))
+digits-next : (n k : ℕ) (s s′ : List ℕ) (at rest j : ℕ) → at + (j + 1) ≤ length s′ → WroteDigits n k s at rest (j + 1) s′
+    → WroteDigits n k s at (rest / 10) j (set s′ (at + j) (48 + rest % 10))
 unfolding digits
-spelled-next n k s s′ at rest j h p =
+digits-next n k s s′ at rest j h p =
     let d : ℕ = 48 + rest % 10 in
     let e : at + (j + 1) ≡ suc (at + j) = omega arith in
     let b : digits (suc j) rest ++ drop (at + (j + 1)) s′ ≡ digits k n ++ drop (at + k) s =
@@ -42,16 +42,16 @@ spelled-next n k s s′ at rest j h p =
     }
 
 -- The same in the words of a loop that counts down.
-pub spelled-turn : (n k : ℕ) (s s′ : List ℕ) (at rest i : ℕ) → 0 < i → at + i ≤ length s′ → Spelled n k s at rest i s′
-    → Spelled n k s at (rest / 10) (i - 1) (set s′ (at + (i - 1)) (48 + rest % 10))
-spelled-turn n k s s′ at rest i z h p =
+pub digits-turn : (n k : ℕ) (s s′ : List ℕ) (at rest i : ℕ) → 0 < i → at + i ≤ length s′ → WroteDigits n k s at rest i s′
+    → WroteDigits n k s at (rest / 10) (i - 1) (set s′ (at + (i - 1)) (48 + rest % 10))
+digits-turn n k s s′ at rest i z h p =
     let e : i ≡ i - 1 + 1 = omega arith in
-    spelled-next n k s s′ at rest (i - 1) (omega arith) (subst (λ (m : ℕ). Spelled n k s at rest m s′) e p)
+    digits-next n k s s′ at rest (i - 1) (omega arith) (subst (λ (m : ℕ). WroteDigits n k s at rest m s′) e p)
 
 -- With all digits written the text stands.
-pub spelled-all : (n k : ℕ) (s s′ : List ℕ) (at rest i : ℕ) → i ≡ 0 → Spelled n k s at rest i s′ → Wrote (digits k n) at s s′ (at + k)
+pub digits-all : (n k : ℕ) (s s′ : List ℕ) (at rest i : ℕ) → i ≡ 0 → WroteDigits n k s at rest i s′ → Wrote (digits k n) at s s′ (at + k)
 unfolding digits
-spelled-all n k s s′ at rest i z p =
+digits-all n k s s′ at rest i z p =
     let e : at + i ≡ at = omega arith in
     let f : take at s′ ≡ take at s = subst (λ (m : ℕ). take m s′ ≡ take m s) e (p .front) in
     let g : digits 0 rest ++ drop (at + i) s′ ≡ digits k n ++ drop (at + k) s =

@@ -60,40 +60,19 @@ fn put_text(out: &mut [u8], at: usize, text: &[u8]) -> usize
     at + i
 }
 
-// The bytes of a word: the first `count`.
-struct Spelling {
-    count: usize,
-    bytes: [u8; 7],
-}
+// The bytes of a word: how many they are, and seven places that hold them.
+struct Spelling(usize, [u8; 7]);
 
 fn spelling_of(word: Word) -> Spelling
-    ensures { λ r. ⌜ (r .count ≤ 7) × (length (r .bytes) ≡ 7) × (take (r .count) (r .bytes) ≡ wordOf word) ⌝ }
+    ensures { λ r. ⌜ (r .0 ≤ 7) × (length (r .1) ≡ 7) × (take (r .0) (r .1) ≡ wordOf word) ⌝ }
 {
     match word {
-        Word::Open => Spelling {
-            count: 4,
-            bytes: *b"open\0\0\0",
-        },
-        Word::Yes => Spelling {
-            count: 3,
-            bytes: *b"yes\0\0\0\0",
-        },
-        Word::Chunk => Spelling {
-            count: 5,
-            bytes: *b"chunk\0\0",
-        },
-        Word::Clock => Spelling {
-            count: 5,
-            bytes: *b"clock\0\0",
-        },
-        Word::Account => Spelling {
-            count: 7,
-            bytes: *b"account",
-        },
-        Word::No => Spelling {
-            count: 2,
-            bytes: *b"no\0\0\0\0\0",
-        },
+        Word::Open => Spelling(4, *b"open\0\0\0"),
+        Word::Yes => Spelling(3, *b"yes\0\0\0\0"),
+        Word::Chunk => Spelling(5, *b"chunk\0\0"),
+        Word::Clock => Spelling(5, *b"clock\0\0"),
+        Word::Account => Spelling(7, *b"account"),
+        Word::No => Spelling(2, *b"no\0\0\0\0\0"),
     }
 }
 
@@ -102,8 +81,8 @@ fn put_word(out: &mut [u8], at: usize, word: Word) -> usize
     ensures { λ r. ⌜ WroteWithin 7 (wordOf word) at (now (out .entry)) (now (out .exit)) r ⌝ }
 {
     let spelling = spelling_of(word);
-    let count = spelling.count;
-    let bytes = spelling.bytes;
+    let count = spelling.0;
+    let bytes = spelling.1;
     put_text(out, at, &bytes[0..count])
 }
 

@@ -2,12 +2,12 @@
 use mathlib.Core.Path.{_≡_, refl, ap, sym, _∙_}
 use mathlib.Core.List.{List, [], _∷_, _++_, append-nil, append-assoc}
 use mathlib.Core.Bool.{Bool, true, false, cond}
-use Prim.Native.Nat.{ℕ, _+_, _*_, _-_, _≤_, _<_}
+use Prim.Native.Nat.{ℕ, _+_, _*_, _≤_, _<_}
 use native.Mathlib.Numerals.{add-one}
 use native.Mathlib.Omega.{arith}
 use borrow.Author.Tests.{eqb-true}
 use lib.Dec.{eqb}
-use lib.ListN.{length, getD, take, drop, replicate}
+use lib.ListN.{length, getD, take, drop}
 use lib.Seq.{take-at, take-suc}
 use Rattle.walk.specs.declared.Chunk.{Chunk}
 use Rattle.planner.specs.declared.Farm.{Farm}
@@ -18,6 +18,7 @@ use Rattle.planner.specs.declared.Answer.the-variants as answer
 use Rattle.planner.specs.Calls.{Said, said, numberOf}
 use Rattle.planner.specs.Clock.{issued, moveAsked, moveSaid, moveMemory, moveLines}
 use Rattle.planner.specs.ClockSteps.{move-granted}
+use Rattle.text.specs.Model.{padded}
 use Rattle.text.specs.Writing.{WroteWithin, wrote-same, wrote-join}
 use Rattle.printing.specs.declared.Line.{Line}
 use Rattle.printing.specs.declared.Word.{Word}
@@ -27,15 +28,12 @@ use Rattle.protocol.specs.Model.{answerText, chunkText, chunkTexts, lent
 
 -- ---- An answer's line
 
-abbrev pub padded : List ℕ → List ℕ
-padded vs = vs ++ replicate (7 - length vs) 0
-
 -- its word and values where it was granted, else `no` and the number
 unfoldable pub lineWith : Word → Said → Line
 lineWith w s =
     cond (eqb (s .number) 0)
-    (record { word = w; count = length (s .values); numbers = padded (s .values) })
-    (record { word = word.No; count = 1; numbers = padded (s .number ∷ []) })
+    (record { word = w; count = length (s .values); numbers = padded 7 (s .values) })
+    (record { word = word.No; count = 1; numbers = padded 7 (s .number ∷ []) })
 
 abbrev pub textOf : Line → List ℕ
 textOf l = lineText (l .word) (take (l .count) (l .numbers))

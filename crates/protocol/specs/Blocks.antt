@@ -26,7 +26,7 @@ module _ (f : Farm) (r : Rest) (block : List ℕ) (from : ℕ) (entry : List ℕ
   upTo next = feed f (pendingOf r) (stretch from next block)
 
   -- the day so far, at a place of the block
-  pub record Going (farm : Farm) (rest : Rest) (next at : ℕ) (out : List ℕ) : Type 0 where
+  pub record DayAt (farm : Farm) (rest : Rest) (next at : ℕ) (out : List ℕ) : Type 0 where
     pub onward : from ≤ next
     pub inside : from ≤ length block → next ≤ length block
     pub farms : upTo next .farm ≡ farm
@@ -39,8 +39,8 @@ module _ (f : Farm) (r : Rest) (block : List ℕ) (from : ℕ) (entry : List ℕ
   nothing-yet = let e : from - from ≡ 0 = omega arith in rw e
 
   -- nothing has been taken yet
-  pub going-start : Going f r from 0 entry
-  going-start = record {
+  pub day-start : DayAt f r from 0 entry
+  day-start = record {
     onward = omega arith;
     inside = λ h. h;
     farms = ap (λ (x : Fed). x .farm) nothing-yet;
@@ -49,14 +49,14 @@ module _ (f : Farm) (r : Rest) (block : List ℕ) (from : ℕ) (entry : List ℕ
     size = refl;
   }
 
-module _ {f : Farm} {r : Rest} {block : List ℕ} {from : ℕ} {entry : List ℕ} {farm : Farm} {rest : Rest} {next at : ℕ} {out : List ℕ} (g : Going f r block from entry farm rest next at out) where
+module _ {f : Farm} {r : Rest} {block : List ℕ} {from : ℕ} {entry : List ℕ} {farm : Farm} {rest : Rest} {next at : ℕ} {out : List ℕ} (g : DayAt f r block from entry farm rest next at out) where
   -- what the bytes so far come to
   abbrev soFar : Fed
   soFar = upTo f r block from entry next
 
   -- the block ends, or there is no room
-  pub going-took : (next < length block → length entry < at + largest) → Took (record { farm = f; rest = r }) block from entry out (record { session = record { farm = farm; rest = rest }; next = next; written = at })
-  going-took h = record {
+  pub day-took : (next < length block → length entry < at + largest) → Took (record { farm = f; rest = r }) block from entry out (record { session = record { farm = farm; rest = rest }; next = next; written = at })
+  day-took h = record {
     onward = g .onward;
     inside = g .inside;
     stops = h;
@@ -70,8 +70,8 @@ module _ {f : Farm} {r : Rest} {block : List ℕ} {from : ℕ} {entry : List ℕ
     kept-line = ap (λ (p : Pending). keptAll p (stretch next end block)) (g .pending) ∙ sym l
 
     -- no newline is left
-    pub going-rest : end ≡ length block → Took (record { farm = f; rest = r }) block from entry out (record { session = record { farm = farm; rest = line }; next = end; written = at })
-    going-rest h =
+    pub day-rest : end ≡ length block → Took (record { farm = f; rest = r }) block from entry out (record { session = record { farm = farm; rest = line }; next = end; written = at })
+    day-rest h =
         let x = fed-rest f (pendingOf r) block from next end soFar (g .onward) e refl h in
         record {
           onward = omega (arith, g .onward);
@@ -83,9 +83,9 @@ module _ {f : Farm} {r : Rest} {block : List ℕ} {from : ℕ} {entry : List ℕ
         }
 
     -- a line ends and is answered
-    pub going-line : {x : Answered} {later : Farm} {empty : Rest} {most place : ℕ} {back : List ℕ} → end < length block → ended farm (pendingOf line) ≡ x → later ≡ x .farm → pendingOf empty ≡ part []
-        → WroteWithin most (x .text) at out back place → place ≤ length entry → Going f r block from entry later empty (end + 1) place back
-    going-line h a d z w k =
+    pub day-line : {x : Answered} {later : Farm} {empty : Rest} {most place : ℕ} {back : List ℕ} → end < length block → ended farm (pendingOf line) ≡ x → later ≡ x .farm → pendingOf empty ≡ part []
+        → WroteWithin most (x .text) at out back place → place ≤ length entry → DayAt f r block from entry later empty (end + 1) place back
+    day-line h a d z w k =
         let y = fed-line f (pendingOf r) block from next end soFar (g .onward) e refl h in
         let b = ap₂ ended (g .farms) kept-line ∙ a in
         let all = wrote-join (g .wrote .wrote) (omega (arith, g .wrote .within)) (w .wrote) in

@@ -92,9 +92,13 @@ called f kind.Clock ns al = clockLine f (getD ns 0 0)
 called f kind.Account ns al = accountLine f (getD ns 0 0)
 called f kind.Unreadable ns al = unread f
 
+-- a call out of its turn cannot be read
+abbrev pub ifInTurn : Farm → Kind → Answered → Answered
+ifInTurn f k x = cond (inTurn k (f .opened)) x (unread f)
+
 -- a line of a kind and its numbers
 unfoldable pub recorded : Farm → Kind → List ℕ → Answered
-recorded f k ns = cond (inTurn k (f .opened)) (called f k ns (drop 5 ns)) (unread f)
+recorded f k ns = ifInTurn f k (called f k ns (drop 5 ns))
 
 -- at most 1,024 bytes before the newline
 abbrev pub longest : ℕ

@@ -1,7 +1,7 @@
 -- A line and its row of numbers: the row keeps 33 allowances, and an opening asks no more of them than of all.
 use mathlib.Core.Path.{_≡_, refl, ap, sym, _∙_}
-use mathlib.Core.List.{List, [], _∷_, _++_}
-use mathlib.Core.Bool.{Bool, true, false, cond, _&&_, false≢true}
+use mathlib.Core.List.{List, [], _∷_}
+use mathlib.Core.Bool.{Bool, true, false, cond, _&&_, and-false, false≢true}
 use Prim.Native.Nat.{ℕ, zero, suc, _-_, _≤_, _<_, min}
 use native.Mathlib.Omega.{arith}
 use borrow.Author.Tests.{leb-true, leb-false, le-leb, lt-leb}
@@ -11,13 +11,13 @@ use lib.Seq.{take-all, take-nil, take-at, length-take-le}
 use Rattle.shares.specs.declared.Costs.{Costs}
 use Rattle.planner.specs.declared.Farm.{Farm}
 use Rattle.planner.specs.Calls.{openSaid, openFarm, showsWithin}
-use Rattle.text.specs.Model.{value}
+use Rattle.text.specs.Model.{value, padded}
 use Rattle.reading.specs.declared.Row.{Row}
 use Rattle.reading.specs.declared.Kind.{Kind}
 use Rattle.reading.specs.declared.Kind.the-variants as kind
 use Rattle.reading.specs.Model.{fields, othersOf, fits, lineKind, readable, allNumbers, numbersOf, rowWith, rowOf}
 use Rattle.protocol.specs.declared.Rest.{Rest}
-use Rattle.protocol.specs.Model.{Answered, unread, farmLine, jobLine, clockLine, accountLine, inTurn, called, recorded, answered, longest, Pending, part, long, ended}
+use Rattle.protocol.specs.Model.{Answered, unread, farmLine, jobLine, clockLine, accountLine, inTurn, ifInTurn, called, recorded, answered, longest, Pending, part, long, ended}
 
 -- ---- Rows
 
@@ -40,7 +40,7 @@ calledBy f r = called f (r .kind) (r .numbers) (allowancesIn r)
 
 -- the answer of a row
 unfoldable pub byRow : Farm → Row → Answered
-byRow f r = cond (inTurn (r .kind) (f .opened)) (calledBy f r) (unread f)
+byRow f r = ifInTurn f (r .kind) (calledBy f r)
 
 -- the row of a farm has its nodes and costs
 abbrev pub FarmRow : Row → Type 0
@@ -54,17 +54,13 @@ drop-take (suc m) zero l = let e : 0 - suc m ≡ 0 = omega arith in rw e
 drop-take (suc m) (suc n) [] = sym (take-nil (suc n - suc m))
 drop-take (suc m) (suc n) (x ∷ l) = let e : suc n - suc m ≡ n - m = omega arith in rw e (drop-take m n l)
 
--- the numbers that a row keeps
-abbrev keep : ℕ → List ℕ → List ℕ
-keep n ns = take n ns ++ replicate (n - length ns) 0
-
-kept-at : (n : ℕ) (ns : List ℕ) (i : ℕ) → i < n → getD (keep n ns) i 0 ≡ getD ns i 0
+kept-at : (n : ℕ) (ns : List ℕ) (i : ℕ) → i < n → getD (padded n ns) i 0 ≡ getD ns i 0
 kept-at zero ns i h = absurd (omega arith)
 kept-at (suc n) [] i h = let e : suc n - 0 ≡ suc n = omega arith in rw e (getD-replicate (suc n) i 0 0 h)
 kept-at (suc n) (x ∷ ns) zero h = refl
 kept-at (suc n) (x ∷ ns) (suc i) h = let e : suc n - suc (length ns) ≡ n - length ns = omega arith in rw e (kept-at n ns i (omega arith))
 
-kept-front : (n : ℕ) (ns : List ℕ) → take (min n (length ns)) (keep n ns) ≡ take n ns
+kept-front : (n : ℕ) (ns : List ℕ) → take (min n (length ns)) (padded n ns) ≡ take n ns
 kept-front n ns = take-at (take n ns) (replicate (n - length ns) 0) (min n (length ns)) (length-take n ns)
 
 -- ---- Over 32 allowances
@@ -86,10 +82,6 @@ open-33 n c al =
     shows-33 al (λ (x y : List ℕ). openSaid n c x ≡ openSaid n c y) refl
     (λ h. rw (many-shows al (omega arith), many-shows (take 33 al) (omega (arith, length-take-le 33 al (omega arith)))))
 
-and-false : (b : Bool) → (b && false) ≡ false
-and-false true = refl
-and-false false = refl
-
 pub open-farm-33 : (n : ℕ) (c : Costs) (al : List ℕ) → openFarm n c (take 33 al) ≡ openFarm n c al
 unfolding openFarm
 open-farm-33 n c al =
@@ -104,9 +96,9 @@ job-same f xs ys a b c = rw (a, b, c)
 
 row-allowances : (k : Kind) (ns : List ℕ) → allowancesIn (rowWith k ns) ≡ take 33 (drop 5 ns)
 row-allowances k ns =
-    sym (drop-take 5 (min 38 (length ns)) (keep 38 ns)) ∙ ap (drop 5) (kept-front 38 ns) ∙ drop-take 5 38 ns
+    sym (drop-take 5 (min 38 (length ns)) (padded 38 ns)) ∙ ap (drop 5) (kept-front 38 ns) ∙ drop-take 5 38 ns
 
-farm-same : (k : Kind) (ns : List ℕ) → farmLine (keep 38 ns) (allowancesIn (rowWith k ns)) ≡ farmLine ns (drop 5 ns)
+farm-same : (k : Kind) (ns : List ℕ) → farmLine (padded 38 ns) (allowancesIn (rowWith k ns)) ≡ farmLine ns (drop 5 ns)
 unfolding farmLine
 farm-same k ns =
     rw (row-allowances k ns, kept-at 38 ns 0 (omega arith), kept-at 38 ns 1 (omega arith), kept-at 38 ns 2 (omega arith), kept-at 38 ns 3 (omega arith), kept-at 38 ns 4 (omega arith), open-33, open-farm-33)
@@ -114,7 +106,7 @@ farm-same k ns =
 row-called : (f : Farm) (k : Kind) (ns : List ℕ) → calledBy f (rowWith k ns) ≡ called f k ns (drop 5 ns)
 unfolding called
 row-called f kind.Farm ns = farm-same kind.Farm ns
-row-called f kind.Job ns = job-same f (keep 38 ns) ns (kept-at 38 ns 0 (omega arith)) (kept-at 38 ns 1 (omega arith)) (kept-at 38 ns 2 (omega arith))
+row-called f kind.Job ns = job-same f (padded 38 ns) ns (kept-at 38 ns 0 (omega arith)) (kept-at 38 ns 1 (omega arith)) (kept-at 38 ns 2 (omega arith))
 row-called f kind.Clock ns = ap (clockLine f) (kept-at 38 ns 0 (omega arith))
 row-called f kind.Account ns = ap (accountLine f) (kept-at 38 ns 0 (omega arith))
 row-called f kind.Unreadable ns = refl

@@ -6,9 +6,9 @@ ghost use lib.Seq.{paste};
 ghost use Rattle.protocol.specs.Feeding.{keptAll, stretch};
 ghost use Rattle.protocol.specs.Rows.{pendingOf, rowIn};
 use crate::Rest;
-use reading::Kind;
 use reading::Row;
 use reading::read;
+use reading::unreadable;
 
 // The bytes with `count` of a block, from `from` on, at place `at`.
 fn copied(bytes: [u8; 1024], at: usize, block: &[u8], from: usize, count: usize) -> [u8; 1024]
@@ -51,11 +51,7 @@ pub fn row_of(rest: Rest) -> Row
     let fill = rest.fill;
     let bytes = rest.bytes;
     if 1024 < fill {
-        return Row {
-            kind: Kind::Unreadable,
-            count: 0,
-            numbers: [0; 38],
-        };
+        return unreadable();
     }
     read(&bytes[0..fill])
 }

@@ -1,8 +1,9 @@
 -- What the definitions of Model say, in theorems and examples.
-use Prim.Native.Nat.{ℕ, zero, suc, _+_, _*_, _-_, _≤_, _<_}
+use Prim.Native.Nat.{ℕ, zero, suc, _+_, _*_, _-_, _^_, _≤_, _<_}
 use mathlib.Core.Path.{_≡_, refl, ap, _∙_}
 use mathlib.Core.List.{List, [], _∷_, _++_, map}
 use mathlib.Core.Bool.{Bool, true, false, cond, _&&_}
+use native.Mathlib.Nat.{pow-le-pow-right}
 use native.Mathlib.Omega.{arith}
 use borrow.Author.Tests.{leb-true, eqb-true}
 use lib.Dec.{leb, eqb}
@@ -13,7 +14,7 @@ use Rattle.reading.specs.declared.Row.{Row}
 use Rattle.reading.specs.declared.Kind.{Kind}
 use Rattle.reading.specs.declared.Kind.the-variants as kind
 use Rattle.reading.specs.Model.{before, same, onFirst, fields, allDigits, isNumber, allNumbers, wordOf, kindAmong, kindOf, fits, othersOf, lineKind, numbersOf, readable, rowWith, rowOf}
-use Rattle.reading.specs.Steps.{fields-cut, tens, tens-le, tens-more, tens-start}
+use Rattle.reading.specs.Steps.{fields-cut, power-more}
 
 -- ---- Fields lose nothing
 
@@ -89,25 +90,24 @@ and-both : (a b : Bool) → a && b ≡ true → (a ≡ true) × (b ≡ true)
 and-both true b e = (refl, e)
 and-both false b e = absurd (let z : _≡_ {A = ℕ} 0 1 = cc in omega arith)
 
-value-tens : (v i : ℕ) (f : List ℕ) → v < tens i → allDigits f ≡ true → valueFrom v f < tens (i + length f)
+value-power : (v i : ℕ) (f : List ℕ) → v < 10 ^ i → allDigits f ≡ true → valueFrom v f < 10 ^ (i + length f)
 unfolding allDigits valueFrom
-value-tens v i [] h e = let z : i + 0 ≡ i = omega arith in rw z h
-value-tens v i (b ∷ f) h e =
+value-power v i [] h e = let z : i + 0 ≡ i = omega arith in rw z h
+value-power v i (b ∷ f) h e =
     let p = and-both (leb 48 b && leb b 57) (allDigits f) e in
     let q : b ≤ 57 = leb-true b 57 (and-both (leb 48 b) (leb b 57) (p .0) .1) in
     let z : i + suc (length f) ≡ i + 1 + length f = omega arith in
-    rw z (value-tens (v * 10 + (b - 48)) (i + 1) f (tens-more v b i h q) (p .1))
+    rw z (value-power (v * 10 + (b - 48)) (i + 1) f (power-more v b i h q) (p .1))
 
 -- A number is below 10^13.
 pub value-below : (f : List ℕ) → isNumber f ≡ true → value f < 10000000000000
-unfolding tens
 value-below f e =
     let p = and-both (leb 1 (length f) && leb (length f) 13) (allDigits f) e in
     let q : length f ≤ 13 = leb-true (length f) 13 (and-both (leb 1 (length f)) _ (p .0) .1) in
-    let t : tens (length f) ≤ 10000000000000 = tens-le (length f) 13 q in
-    let v : valueFrom 0 f < tens (0 + length f) = value-tens 0 0 f tens-start (p .1) in
+    let t : 10 ^ length f ≤ 10000000000000 = pow-le-pow-right {n = 10} (omega arith) {i = length f} {j = 13} q in
+    let v : valueFrom 0 f < 10 ^ (0 + length f) = value-power 0 0 f (omega arith) (p .1) in
     let z : 0 + length f ≡ length f = omega arith in
-    let w : valueFrom 0 f < tens (length f) = rw z at v in
+    let w : valueFrom 0 f < 10 ^ length f = rw z at v in
     omega arith
 
 -- ---- A row's figures

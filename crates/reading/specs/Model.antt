@@ -1,11 +1,11 @@
 -- A line of input and the record that it is, in the words of document 01: fields parted by tabs, the first a kind, the others numbers of 1 to 13
 -- digits. A line is given without its newline. Everything here is a definition; nothing is assumed.
-use Prim.Native.Nat.{ℕ, suc, _-_, min}
-use mathlib.Core.List.{List, [], _∷_, _++_, map}
+use Prim.Native.Nat.{ℕ, suc, min}
+use mathlib.Core.List.{List, [], _∷_, map}
 use mathlib.Core.Bool.{Bool, true, false, cond, _&&_}
 use lib.Dec.{leb, eqb}
-use lib.ListN.{length, take, replicate}
-use Rattle.text.specs.Model.{tab, value}
+use lib.ListN.{length}
+use Rattle.text.specs.Model.{tab, value, padded}
 use Rattle.reading.specs.declared.Row.{Row}
 use Rattle.reading.specs.declared.Kind.{Kind}
 use Rattle.reading.specs.declared.Kind.the-variants as kind
@@ -103,7 +103,7 @@ readable bs = fits (lineKind bs) (length (othersOf (fields bs))) && allNumbers (
 
 -- a row of numbers: 38 are kept (nodes, four costs and 33 allowances, one more than any farm has)
 abbrev pub rowWith : Kind → List ℕ → Row
-rowWith k ns = record { kind = k; count = min 38 (length ns); numbers = take 38 ns ++ replicate (38 - length ns) 0 }
+rowWith k ns = record { kind = k; count = min 38 (length ns); numbers = padded 38 ns }
 
 -- the record of a line: its kind and numbers; no numbers where it cannot be read
 unfoldable pub rowOf : List ℕ → Row

@@ -1,15 +1,16 @@
 -- What the parts of `read` work out, and what each turn of their loops keeps.
-use Prim.Native.Nat.{ℕ, zero, suc, min, _+_, _*_, _-_, _≤_, _<_}
+use Prim.Native.Nat.{ℕ, zero, suc, min, _+_, _*_, _-_, _^_, _≤_, _<_}
 use mathlib.Core.Path.{_≡_, refl, sym, ap, _∙_}
-use mathlib.Core.List.{List, [], _∷_, _++_, map}
+use mathlib.Core.List.{List, [], _∷_, map}
 use mathlib.Core.Bool.{Bool, true, false, cond, _&&_, and-false}
 use native.Mathlib.Numerals.{add-one}
+use native.Mathlib.Nat.{pow-suc, pow-le-pow-right}
 use native.Mathlib.Omega.{arith}
 use borrow.Author.Tests.{le-leb, lt-leb, eq-eqb, ne-eqb}
 use lib.Dec.{leb, eqb}
 use lib.ListN.{length, getD, take, drop, set, replicate, length-map}
 use lib.Seq.{sets, drop-cons, drop-length, drop-drop, take-nil}
-use Rattle.text.specs.Model.{tab, valueFrom, value}
+use Rattle.text.specs.Model.{tab, valueFrom, value, padded}
 use Rattle.reading.specs.declared.Number.{Number}
 use Rattle.reading.specs.declared.Numbers.{Numbers}
 use Rattle.reading.specs.declared.Kind.{Kind}
@@ -99,30 +100,13 @@ pub number-none : (v : ℕ) (f : List ℕ) (i : ℕ) → i ≡ length f → numb
 unfolding allDigits valueFrom
 number-none v f i e = let p : drop i f ≡ [] = rw e (drop-length f) in rw p
 
--- ten times itself n times: n digits stay below it
-unfoldable pub tens : ℕ → ℕ
-tens zero = 1
-tens (suc n) = tens n * 10
-
-pub tens-le : (i n : ℕ) → i ≤ n → tens i ≤ tens n
-unfolding tens
-tens-le zero zero h = omega arith
-tens-le zero (suc n) h = let r : tens 0 ≤ tens n = tens-le 0 n (omega arith) in omega arith
-tens-le (suc i) zero h = omega arith
-tens-le (suc i) (suc n) h = let r : tens i ≤ tens n = tens-le i n (omega arith) in omega arith
-
 -- Before the 13th digit a value is below 10^12.
-pub tens-small : (i : ℕ) → i < 13 → tens i ≤ 1000000000000
-unfolding tens
-tens-small i h = tens-le i 12 (omega arith)
+pub power-small : (i : ℕ) → i < 13 → 10 ^ i ≤ 1000000000000
+power-small i h = pow-le-pow-right {n = 10} (omega arith) {i = i} {j = 12} (omega arith)
 
-pub tens-more : (v d i : ℕ) → v < tens i → d ≤ 57 → v * 10 + (d - 48) < tens (i + 1)
-unfolding tens
-tens-more v d i h k = rw add-one (omega arith)
-
-pub tens-start : 0 < tens 0
-unfolding tens
-tens-start = omega arith
+-- One digit more.
+pub power-more : (v d i : ℕ) → v < 10 ^ i → d ≤ 57 → v * 10 + (d - 48) < 10 ^ (i + 1)
+power-more v d i h k = rw (add-one, pow-suc) (omega arith)
 
 -- ---- Fields
 
@@ -207,7 +191,7 @@ sets-cons x l i [] = refl
 sets-cons x l i (v ∷ vs) = sets-cons x (set l i v) (suc i) vs
 
 -- Stored over zeros, the first n are kept.
-pub sets-zeros : (n : ℕ) (vs : List ℕ) → sets (replicate n 0) 0 vs ≡ take n vs ++ replicate (n - length vs) 0
+pub sets-zeros : (n : ℕ) (vs : List ℕ) → sets (replicate n 0) 0 vs ≡ padded n vs
 sets-zeros n [] = let z : n - 0 ≡ n = omega arith in rw (take-nil n, z)
 sets-zeros zero (v ∷ vs) = let z : 0 - suc (length vs) ≡ 0 = omega arith in rw z (sets-nil 1 vs)
 sets-zeros (suc n) (v ∷ vs) =
@@ -250,5 +234,5 @@ module _ (xs : List ℕ) (e : ℕ) (k : Kind) (x : Numbers) (cut : e ≡ 0 + bef
     row-read f =
         let vs = map value (behind (drop e xs)) in
         let n : length vs ≡ x .count = length-map (behind (drop e xs)) value ∙ count-is in
-        let s : x .numbers ≡ take 38 vs ++ replicate (38 - length vs) 0 = ap (λ (y : Numbers). y .numbers) all-are ∙ sets-zeros 38 vs in
+        let s : x .numbers ≡ padded 38 vs = ap (λ (y : Numbers). y .numbers) all-are ∙ sets-zeros 38 vs in
         rw (first-is, others-are, count-is, f, known-is, u, s, n)

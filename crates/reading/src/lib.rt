@@ -2,9 +2,10 @@
 // What the public functions mean is in specs/Model.antt, what their parts work out in specs/Steps.antt.
 ghost use mathlib.Core.Path.{_≡_};
 ghost use mathlib.Core.Bool.{cond};
+ghost use mathlib.Core.List.{[]};
 ghost use Prim.Native.Nat.{_+_, _≤_};
 ghost use lib.ListN.{length, drop, set, replicate};
-ghost use Rattle.reading.specs.Model.{before, same, kindOf, fits, rowOf};
+ghost use Rattle.reading.specs.Model.{before, same, kindOf, fits, rowWith, rowOf};
 ghost use Rattle.reading.specs.Steps.{numberIn, behind, gathered};
 use numbers::least;
 use numbers::wide8;
@@ -186,8 +187,9 @@ fn gather(line: &[u8], from: usize) -> Numbers
 
 // ---- A line
 
-fn unreadable() -> Row
-    ensures { λ r. ⌜ r ≡ record { kind = Kind.Unreadable; count = 0; numbers = replicate 38 0 } ⌝ }
+// The record of a line that cannot be read.
+pub fn unreadable() -> Row
+    ensures { λ r. ⌜ r ≡ rowWith Kind.Unreadable [] ⌝ }
 {
     Row {
         kind: Kind::Unreadable,

@@ -3,19 +3,19 @@ use mathlib.Core.Path.{_≡_, refl}
 use Prim.Native.Nat.{_≤_}
 use native.Mathlib.Omega.{arith}
 use lib.ListN.{length, length-set}
-use Rattle.printing.specs.Loops.{Spelled, spelled-none, spelled-turn, spelled-all}
+use Rattle.printing.specs.Loops.{WroteDigits, digits-none, digits-turn, digits-all}
 use borrow.Author.Needs.{needs}
 use Rattle.printing.proofs.put_digits.Statement.{statement}
 use Rattle.printing.proofs.put_digits.Tie as tie
 
 abbrev Inv-loop : tie.InvT-loop
-Inv-loop out₀ at k n i₀ rest₀ out i rest = (i ≤ k) × (length out ≡ length out₀) × Spelled n k out₀ at rest i out
+Inv-loop out₀ at k n i₀ rest₀ out i rest = (i ≤ k) × (length out ≡ length out₀) × WroteDigits n k out₀ at rest i out
 
 abbrev μ-loop : tie.MeasureT-loop
 μ-loop out₀ at k n i₀ rest₀ out i rest = i
 
 loop-holds : tie.Need-loop-holds Inv-loop μ-loop
-loop-holds c = (omega arith, refl, spelled-none _ _ _ _)
+loop-holds c = (omega arith, refl, digits-none _ _ _ _)
 
 sub-i : tie.Need-sub-i Inv-loop μ-loop
 sub-i c = search needs
@@ -38,7 +38,7 @@ loop-less c = search needs
 loop-again : tie.Need-loop-again Inv-loop μ-loop
 loop-again c =
     let l = c .before .loop in
-    (omega arith, simp length-set (l .inv .1), spelled-turn _ _ _ _ _ _ _ (c .loop-test .taken) (omega arith) (l .inv .2))
+    (omega arith, simp length-set (l .inv .1), digits-turn _ _ _ _ _ _ _ (c .loop-test .taken) (omega arith) (l .inv .2))
 
 add-result : tie.Need-add-result Inv-loop μ-loop
 add-result c = search needs
@@ -49,7 +49,7 @@ same-length c = c .before .loop .inv .1
 returns : tie.Need-returns Inv-loop μ-loop
 returns c =
     let l = c .before .loop in
-    spelled-all _ _ _ _ _ _ _ (omega arith) (l .inv .2)
+    digits-all _ _ _ _ _ _ _ (omega arith) (l .inv .2)
 
 pub put-digits-spec : {M : Type 1} → statement M
 put-digits-spec =

@@ -30,10 +30,10 @@ returns : tie.Need-returns
 returns c =
     let s = c .before .before .before .before .before .before .before .spelling-of in
     let p = c .before .before .put-text .ensures in
-    let z : s .result .count - 0 ≡ s .result .count = omega arith in
+    let z : s .result .0 - 0 ≡ s .result .0 = omega arith in
     record {
-      wrote = wrote-same (ap (λ (n : ℕ). take n (s .result .bytes)) z ∙ s .ensures .2) p;
-      within = omega (arith, p .place, length-take (s .result .count - 0) (s .result .bytes));
+      wrote = wrote-same (ap (λ (n : ℕ). take n (s .result .1)) z ∙ s .ensures .2) p;
+      within = omega (arith, p .place, length-take (s .result .0 - 0) (s .result .1));
     }
 
 pub put-word-spec : {M : Type 1} → statement M

@@ -7,13 +7,13 @@ use borrow.Author.Tests.{not-true, not-false}
 use lib.ListN.{length, getD}
 use Rattle.protocol.specs.Model.{ended, unread, accountLine, called}
 use Rattle.protocol.specs.Rows.{FarmRow, pendingOf, byRow, calledBy, rest-row, row-farm, row-turn, row-unread}
-use Rattle.protocol.specs.Blocks.{Going, going-start, going-took, going-rest, going-line}
+use Rattle.protocol.specs.Blocks.{DayAt, day-start, day-took, day-rest, day-line}
 use Rattle.protocol.proofs.blocks.answer_block.Statement.{statement}
 use Rattle.protocol.proofs.blocks.answer_block.Tie as tie
 
 abbrev Inv-loop : tie.InvT-loop
 Inv-loop block from out₀ last farm₀ rest₀ next₀ at₀ out farm rest next at =
-    Going farm₀ rest₀ block from out₀ farm rest next at out × (last + 164000 ≡ length out₀)
+    DayAt farm₀ rest₀ block from out₀ farm rest next at out × (last + 164000 ≡ length out₀)
 
 abbrev μ-loop : tie.MeasureT-loop
 μ-loop block from out₀ last farm₀ rest₀ next₀ at₀ out farm rest next at = length block - next
@@ -21,19 +21,19 @@ abbrev μ-loop : tie.MeasureT-loop
 returns : tie.Need-returns Inv-loop μ-loop
 returns c =
     let a = c .before .before .before .args in
-    going-took (going-start (a .session .farm) (a .session .rest) (a .block .now) (a .from) (a .out .now)) (λ h. omega arith)
+    day-took (day-start (a .session .farm) (a .session .rest) (a .block .now) (a .from) (a .out .now)) (λ h. omega arith)
 
 sub-last : tie.Need-sub-last Inv-loop μ-loop
 sub-last c = search needs
 
 loop-holds : tie.Need-loop-holds Inv-loop μ-loop
-loop-holds c = let a = c .before .before .before .before .before .args in (going-start (a .session .farm) (a .session .rest) (a .block .now) (a .from) (a .out .now), omega arith)
+loop-holds c = let a = c .before .before .before .before .before .args in (day-start (a .session .farm) (a .session .rest) (a .block .now) (a .from) (a .out .now), omega arith)
 
 same-length : tie.Need-same-length Inv-loop μ-loop
 same-length c = search needs
 
 returns-2 : tie.Need-returns-2 Inv-loop μ-loop
-returns-2 c = going-took (c .before .before .loop .inv .0) (λ h. omega arith)
+returns-2 c = day-took (c .before .before .loop .inv .0) (λ h. omega arith)
 
 find-requires : tie.Need-find-requires Inv-loop μ-loop
 find-requires c κs = omega arith
@@ -47,7 +47,7 @@ same-length-2 c = search needs
 returns-3 : tie.Need-returns-3 Inv-loop μ-loop
 returns-3 c =
     let w = c .before .with-bytes in
-    going-rest (c .before .before .before .before .before .loop .inv .0) (w .result) (c .before .before .find .ensures .0) (w .ensures) (c .if3 .taken)
+    day-rest (c .before .before .before .before .before .loop .inv .0) (w .result) (c .before .before .find .ensures .0) (w .ensures) (c .if3 .taken)
 
 add-next : tie.Need-add-next Inv-loop μ-loop
 add-next c = search needs
@@ -74,7 +74,7 @@ loop-again c =
     let p = c .before .before .put-unread in
     let said : ended (l .farm) (pendingOf (w .result)) ≡ unread (l .farm) =
     rest-row (l .farm) (w .result) ∙ ap (byRow (l .farm)) (sym (o .ensures)) ∙ row-unread (l .farm) (o .result) (sym (t .in-turn .ensures) ∙ not-true _ (c .before .before .before .before .if4 .taken)) in (
-      going-line (l .inv .0) (w .result) (e .ensures .0) (w .ensures) (omega (arith, e .ensures .1, t .before .before .if3 .left)) said refl refl (p .ensures) (omega (arith, p .ensures .within, l .inv .1, t .before .before .before .before .before .if2 .left)),
+      day-line (l .inv .0) (w .result) (e .ensures .0) (w .ensures) (omega (arith, e .ensures .1, t .before .before .if3 .left)) said refl refl (p .ensures) (omega (arith, p .ensures .within, l .inv .1, t .before .before .before .before .before .if2 .left)),
       l .inv .1,
     )
 
@@ -101,7 +101,7 @@ loop-again-2 c =
     let p = c .before .before .put-account in
     let said : ended (l .farm) (pendingOf (w .result)) ≡ accountLine (l .farm) (getD (o .result .numbers) 0 0) =
     rest-row (l .farm) (w .result) ∙ ap (byRow (l .farm)) (sym (o .ensures)) ∙ row-turn (l .farm) (o .result) (sym (t .in-turn .ensures) ∙ not-false _ (c .before .before .before .before .before .before .before .if4 .left)) ∙ rw (c .before .before .before .before .before .enum-told .given .1) in (
-      going-line (l .inv .0) (w .result) (e .ensures .0) (w .ensures) (omega (arith, e .ensures .1, t .before .before .if3 .left)) said refl refl (p .ensures) (omega (arith, p .ensures .within, l .inv .1, t .before .before .before .before .before .if2 .left)),
+      day-line (l .inv .0) (w .result) (e .ensures .0) (w .ensures) (omega (arith, e .ensures .1, t .before .before .if3 .left)) said refl refl (p .ensures) (omega (arith, p .ensures .within, l .inv .1, t .before .before .before .before .before .if2 .left)),
       l .inv .1,
     )
 
@@ -123,7 +123,7 @@ loop-again-3 c =
     let p = c .before .before .before .answer-row in
     let said : ended (l .farm) (pendingOf (w .result)) ≡ calledBy (l .farm) (o .result) =
     rest-row (l .farm) (w .result) ∙ ap (byRow (l .farm)) (sym (o .ensures)) ∙ row-turn (l .farm) (o .result) (sym (t .in-turn .ensures) ∙ not-false _ (c .before .before .before .before .before .before .if4 .left)) in (
-      going-line (l .inv .0) (w .result) (e .ensures .0) (w .ensures) (omega (arith, e .ensures .1, t .before .before .if3 .left)) said (p .ensures .hands) refl (p .ensures .wrote) (omega (arith, p .ensures .wrote .within, l .inv .1, t .before .before .before .before .before .if2 .left)),
+      day-line (l .inv .0) (w .result) (e .ensures .0) (w .ensures) (omega (arith, e .ensures .1, t .before .before .if3 .left)) said (p .ensures .hands) refl (p .ensures .wrote) (omega (arith, p .ensures .wrote .within, l .inv .1, t .before .before .before .before .before .if2 .left)),
       l .inv .1,
     )
 
@@ -131,7 +131,7 @@ same-length-3 : tie.Need-same-length-3 Inv-loop μ-loop
 same-length-3 c = search needs
 
 returns-4 : tie.Need-returns-4 Inv-loop μ-loop
-returns-4 c = going-took (c .before .loop .inv .0) (λ h. absurd (omega arith))
+returns-4 c = day-took (c .before .loop .inv .0) (λ h. absurd (omega arith))
 
 pub answer-block-spec : {M : Type 1} → statement M
 answer-block-spec =

@@ -10,8 +10,11 @@ use Rattle.protocol.proofs.Sizes.{bytes-length}
 use Rattle.protocol.proofs.kept.row_of.Statement.{statement}
 use Rattle.protocol.proofs.kept.row_of.Tie as tie
 
+unreadable-requires : tie.Need-unreadable-requires
+unreadable-requires c κs = search needs
+
 returns : tie.Need-returns
-returns c = rw (lt-leb _ _ (c .if1 .taken))
+returns c = rw (lt-leb _ _ (c .before .if1 .taken)) (c .unreadable .ensures)
 
 sub-read : tie.Need-sub-read
 sub-read c = search needs
@@ -34,4 +37,4 @@ returns-2 c =
 
 pub row-of-spec : {M : Type 1} → statement M
 row-of-spec =
-    tie.close (tie.spec returns sub-read part-read-start part-read-end read-requires returns-2)
+    tie.close (tie.spec unreadable-requires returns sub-read part-read-start part-read-end read-requires returns-2)
