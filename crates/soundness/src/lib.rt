@@ -22,7 +22,7 @@ use shares::Costs;
 use walk::Busy;
 use walk::Job;
 use walk::Time;
-use walk::chunk_at;
+use walk::chunk_on;
 use walk::keys_by;
 
 // What each waiting job is held against.
@@ -102,7 +102,7 @@ fn shares_kept(costs: Costs, job: Job) -> bool
         if units < 1 {
             return false;
         }
-        let chunk = chunk_at(costs, job, i, from);
+        let chunk = chunk_on(costs, job.number, job.show, b.nodes[i], b.shares[i], from);
         if job.deadline < chunk.finish {
             return false;
         }
@@ -194,7 +194,7 @@ fn job_fits(costs: Costs, busy: Busy, job: Job) -> Fit
     let mut from = b.start;
     let mut i = 0;
     while i < b.count {
-        let chunk = chunk_at(costs, job, i, from);
+        let chunk = chunk_on(costs, job.number, job.show, b.nodes[i], b.shares[i], from);
         let place = chunk.node as usize - 1;
         if from < link {
             return Fit { fits: false, busy };

@@ -26,49 +26,61 @@ loop-holds c =
     let a = z .args in
     (omega arith, free-length (a .busy) (z .good .1 .0), z .pre .ends, fitting-start (a .costs) (a .busy) (a .job))
 
-chunk-at-requires : tie.Need-chunk-at-requires Inv-loop μ-loop
-chunk-at-requires c κs =
-    let z = c .before .before .before .before .before in
-    let a = z .args in
-    let s = bounded-sends (a .costs) (a .job) (z .pre) (nodes-length (a .job) (z .good .1 .1 .0)) (shares-length (a .job) (z .good .1 .1 .0)) in
-    let l = c .before .before .loop in
-    chunk-fits (a .costs) (a .job) s (l .i) (l .from) (c .if1 .taken) (l .inv .2)
+element-copy-out-chunk-on : tie.Need-element-copy-out-chunk-on Inv-loop μ-loop
+element-copy-out-chunk-on c =
+    omega (arith, c .before .before .before .before .pre .count)
 
-sub-place : tie.Need-sub-place Inv-loop μ-loop
-sub-place c =
+mul-chunk-on : tie.Need-mul-chunk-on Inv-loop μ-loop
+mul-chunk-on c =
+    omega (arith, c .before .before .before .before .before .pre .count)
+
+element-copy-out-chunk-on-2 : tie.Need-element-copy-out-chunk-on-2 Inv-loop μ-loop
+element-copy-out-chunk-on-2 c =
+    omega (arith, c .before .before .before .before .before .pre .count)
+
+chunk-on-requires : tie.Need-chunk-on-requires Inv-loop μ-loop
+chunk-on-requires c κs =
     let z = c .before .before .before .before .before .before in
     let a = z .args in
     let s = bounded-sends (a .costs) (a .job) (z .pre) (nodes-length (a .job) (z .good .1 .1 .0)) (shares-length (a .job) (z .good .1 .1 .0)) in
     let l = c .before .before .before .loop in
-    let k = node-known (a .costs) (a .job) s (l .i) (l .from) (c .before .if1 .taken) in
-    rw (c .chunk-at .ensures) (omega (arith, k))
+    chunk-fits (a .costs) (a .job) s (l .i) (l .from) (c .before .before .loop-test .taken) (l .inv .2) .1
+
+sub-place : tie.Need-sub-place Inv-loop μ-loop
+sub-place c =
+    let z = c .before .before .before .before .before .before .before in
+    let a = z .args in
+    let s = bounded-sends (a .costs) (a .job) (z .pre) (nodes-length (a .job) (z .good .1 .1 .0)) (shares-length (a .job) (z .good .1 .1 .0)) in
+    let l = c .before .before .before .before .loop in
+    let k = node-known (a .costs) (a .job) s (l .i) (l .from) (c .before .before .before .loop-test .taken) in
+    rw (c .chunk-on .ensures) (omega (arith, k))
 
 returns : tie.Need-returns Inv-loop μ-loop
 returns c =
-    let z = c .before .before .before .before .before .before .before in
+    let z = c .before .before .before .before .before .before .before .before in
     let a = z .args in
     let s = bounded-sends (a .costs) (a .job) (z .pre) (nodes-length (a .job) (z .good .1 .1 .0)) (shares-length (a .job) (z .good .1 .1 .0)) in
-    let l = c .before .before .before .before .loop in
+    let l = c .before .before .before .before .before .loop in
     let now : Busy = record { link = l .link; free = l .free } in
-    fitting-link (a .costs) (a .busy) (a .job) now (l .from) (l .i) (l .inv .3) s (c .before .before .if1 .taken) (c .before .chunk-at .result) (c .before .chunk-at .ensures) (c .if2 .taken)
+    fitting-link (a .costs) (a .busy) (a .job) now (l .from) (l .i) (l .inv .3) s (c .before .before .before .before .loop-test .taken) (c .before .chunk-on .result) (c .before .chunk-on .ensures) (c .if1 .taken)
 
-mul-if3 : tie.Need-mul-if3 Inv-loop μ-loop
-mul-if3 c =
-    let z = c .before .before .before .before .before .before .before in
+mul-if2 : tie.Need-mul-if2 Inv-loop μ-loop
+mul-if2 c =
+    let z = c .before .before .before .before .before .before .before .before in
     let a = z .args in
     let s = bounded-sends (a .costs) (a .job) (z .pre) (nodes-length (a .job) (z .good .1 .1 .0)) (shares-length (a .job) (z .good .1 .1 .0)) in
-    let l = c .before .before .before .before .loop in
-    let k = node-known (a .costs) (a .job) s (l .i) (l .from) (c .before .before .if1 .taken) in
-    rw (c .before .chunk-at .ensures) (omega (arith, k))
+    let l = c .before .before .before .before .before .loop in
+    let k = node-known (a .costs) (a .job) s (l .i) (l .from) (c .before .before .before .before .loop-test .taken) in
+    rw (c .before .chunk-on .ensures) (omega (arith, k))
 
-array-read-if3 : tie.Need-array-read-if3 Inv-loop μ-loop
-array-read-if3 c =
-    let z = c .before .before .before .before .before .before .before in
+array-read-if2 : tie.Need-array-read-if2 Inv-loop μ-loop
+array-read-if2 c =
+    let z = c .before .before .before .before .before .before .before .before in
     let a = z .args in
     let s = bounded-sends (a .costs) (a .job) (z .pre) (nodes-length (a .job) (z .good .1 .1 .0)) (shares-length (a .job) (z .good .1 .1 .0)) in
-    let l = c .before .before .before .before .loop in
-    let k = node-known (a .costs) (a .job) s (l .i) (l .from) (c .before .before .if1 .taken) in
-    rw (c .before .chunk-at .ensures) (omega (arith, k, l .inv .1))
+    let l = c .before .before .before .before .before .loop in
+    let k = node-known (a .costs) (a .job) s (l .i) (l .from) (c .before .before .before .before .loop-test .taken) in
+    rw (c .before .chunk-on .ensures) (omega (arith, k, l .inv .1))
 
 returns-2 : tie.Need-returns-2 Inv-loop μ-loop
 returns-2 c =
@@ -77,7 +89,7 @@ returns-2 c =
     let s = bounded-sends (a .costs) (a .job) (z .pre) (nodes-length (a .job) (z .good .1 .1 .0)) (shares-length (a .job) (z .good .1 .1 .0)) in
     let l = c .before .before .before .before .before .before .loop in
     let now : Busy = record { link = l .link; free = l .free } in
-    fitting-node (a .costs) (a .busy) (a .job) now (l .from) (l .i) (l .inv .3) s (c .before .before .before .before .if1 .taken) (c .before .before .before .chunk-at .result) (c .before .before .before .chunk-at .ensures) (c .if3 .taken)
+    fitting-node (a .costs) (a .busy) (a .job) now (l .from) (l .i) (l .inv .3) s (c .before .before .before .before .before .loop-test .taken) (c .before .before .chunk-on .result) (c .before .before .chunk-on .ensures) (c .if2 .taken)
 
 mul-free : tie.Need-mul-free Inv-loop μ-loop
 mul-free c =
@@ -85,8 +97,8 @@ mul-free c =
     let a = z .args in
     let s = bounded-sends (a .costs) (a .job) (z .pre) (nodes-length (a .job) (z .good .1 .1 .0)) (shares-length (a .job) (z .good .1 .1 .0)) in
     let l = c .before .before .before .before .before .before .loop in
-    let k = node-known (a .costs) (a .job) s (l .i) (l .from) (c .before .before .before .before .if1 .taken) in
-    rw (c .before .before .before .chunk-at .ensures) (omega (arith, k))
+    let k = node-known (a .costs) (a .job) s (l .i) (l .from) (c .before .before .before .before .before .loop-test .taken) in
+    rw (c .before .before .chunk-on .ensures) (omega (arith, k))
 
 array-write-free : tie.Need-array-write-free Inv-loop μ-loop
 array-write-free c =
@@ -94,8 +106,8 @@ array-write-free c =
     let a = z .args in
     let s = bounded-sends (a .costs) (a .job) (z .pre) (nodes-length (a .job) (z .good .1 .1 .0)) (shares-length (a .job) (z .good .1 .1 .0)) in
     let l = c .before .before .before .before .before .before .loop in
-    let k = node-known (a .costs) (a .job) s (l .i) (l .from) (c .before .before .before .before .if1 .taken) in
-    rw (c .before .before .before .chunk-at .ensures) (omega (arith, k, l .inv .1))
+    let k = node-known (a .costs) (a .job) s (l .i) (l .from) (c .before .before .before .before .before .loop-test .taken) in
+    rw (c .before .before .chunk-on .ensures) (omega (arith, k, l .inv .1))
 
 add-i : tie.Need-add-i Inv-loop μ-loop
 add-i c = search needs
@@ -109,22 +121,22 @@ loop-again c =
     let a = z .args in
     let s = bounded-sends (a .costs) (a .job) (z .pre) (nodes-length (a .job) (z .good .1 .1 .0)) (shares-length (a .job) (z .good .1 .1 .0)) in
     let l = c .before .before .before .before .before .before .loop in
-    let x = c .before .before .before .chunk-at in
-    let more = c .before .before .before .before .if1 .taken in
+    let x = c .before .before .chunk-on in
+    let more = c .before .before .before .before .before .loop-test .taken in
     let now : Busy = record { link = l .link; free = l .free } in (
       omega arith,
       simp length-set (l .inv .1),
       rw (x .ensures) (ends-next (a .costs) (a .job) s (l .i) (l .from) more (l .inv .2) .1),
-      fitting-more (a .costs) (a .busy) (a .job) now (l .from) (l .i) (l .inv .3) s more (x .result) (x .ensures) (c .before .before .if2 .left) (c .if3 .left),
+      fitting-more (a .costs) (a .busy) (a .job) now (l .from) (l .i) (l .inv .3) s more (x .result) (x .ensures) (c .before .if1 .left) (c .if2 .left),
     )
 
 returns-3 : tie.Need-returns-3 Inv-loop μ-loop
 returns-3 c =
-    let z = c .before .before .before .before .before in
+    let z = c .before .before .before .before in
     let a = z .args in
     let s = bounded-sends (a .costs) (a .job) (z .pre) (nodes-length (a .job) (z .good .1 .1 .0)) (shares-length (a .job) (z .good .1 .1 .0)) in
-    let l = c .before .before .loop in
-    fitting-all (a .costs) (a .busy) (a .job) (record { link = l .link; free = l .free }) (l .from) (l .i) (l .inv .3) s (c .if1 .left)
+    let l = c .before .loop in
+    fitting-all (a .costs) (a .busy) (a .job) (record { link = l .link; free = l .free }) (l .from) (l .i) (l .inv .3) s (c .loop-test .left)
 
 pub job-fits-spec : {M : Type 1} → statement M
 job-fits-spec =
@@ -133,11 +145,14 @@ job-fits-spec =
     Inv-loop
     μ-loop
     loop-holds
-    chunk-at-requires
+    element-copy-out-chunk-on
+    mul-chunk-on
+    element-copy-out-chunk-on-2
+    chunk-on-requires
     sub-place
     returns
-    mul-if3
-    array-read-if3
+    mul-if2
+    array-read-if2
     returns-2
     mul-free
     array-write-free

@@ -46,21 +46,33 @@ returns c =
     let us : a .job .booking .count ≤ length (a .job .booking .shares) = omega (arith, z .pre .count, shares-length (a .job) (z .good .1 .0)) in
     sym (l .inv .3 ∙ shares-small (a .costs) (a .job .size) (a .job .deadline) (l .total) (l .from) (a .job .booking .shares) (l .i) (a .job .booking .count) (c .before .before .before .loop-test .taken) us (subst (λ (k : ℕ). k < 1) (c .before .wide32 .ensures .0) (c .if1 .taken)))
 
-chunk-at-requires : tie.Need-chunk-at-requires Inv-loop μ-loop
-chunk-at-requires c κs =
-    let z = c .before .before .before .before .before .before in
+element-copy-out-chunk-on : tie.Need-element-copy-out-chunk-on Inv-loop μ-loop
+element-copy-out-chunk-on c =
+    omega (arith, c .before .before .before .before .before .before .pre .count)
+
+mul-chunk-on : tie.Need-mul-chunk-on Inv-loop μ-loop
+mul-chunk-on c =
+    omega (arith, c .before .before .before .before .before .before .before .pre .count)
+
+element-copy-out-chunk-on-2 : tie.Need-element-copy-out-chunk-on-2 Inv-loop μ-loop
+element-copy-out-chunk-on-2 c =
+    omega (arith, c .before .before .before .before .before .before .before .pre .count)
+
+chunk-on-requires : tie.Need-chunk-on-requires Inv-loop μ-loop
+chunk-on-requires c κs =
+    let z = c .before .before .before .before .before .before .before .before in
     let a = z .args in
-    let l = c .before .before .before .before .loop in
-    let w = c .before .wide32 .ensures in
-    (omega (arith, z .pre .count, c .before .before .before .loop-test .taken), finish-small (a .costs) (l .from) (getD (a .job .booking .shares) (l .i) 0) (z .pre .costs) (l .inv .2) (omega (arith, w .0, w .1)))
+    let l = c .before .before .before .before .before .before .loop in
+    let w = c .before .before .before .wide32 .ensures in
+    finish-small (a .costs) (l .from) (getD (a .job .booking .shares) (l .i) 0) (z .pre .costs) (l .inv .2) (omega (arith, w .0, w .1))
 
 returns-2 : tie.Need-returns-2 Inv-loop μ-loop
 returns-2 c =
-    let z = c .before .before .before .before .before .before .before .before .before .before in
+    let z = c .before .before .before .before .before .before .before .before .before .before .before .before in
     let a = z .args in
-    let l = c .before .before .before .before .before .before .before .before .loop in
+    let l = c .before .before .before .before .before .before .before .before .before .before .loop in
     let us : a .job .booking .count ≤ length (a .job .booking .shares) = omega (arith, z .pre .count, shares-length (a .job) (z .good .1 .0)) in
-    sym (l .inv .3 ∙ shares-over (a .costs) (a .job) (l .total) (l .from) (l .i) (c .before .before .before .before .before .before .before .loop-test .taken) us (c .before .before .before .chunk-at .result) (c .before .before .before .chunk-at .ensures) (c .if2 .taken))
+    sym (l .inv .3 ∙ shares-over (a .costs) (a .job) (l .total) (l .from) (l .i) (c .before .before .before .before .before .before .before .before .before .loop-test .taken) us (c .before .before .before .chunk-on .result) (c .before .before .before .chunk-on .ensures) (c .if2 .taken))
 
 add-total : tie.Need-add-total Inv-loop μ-loop
 add-total c = search needs
@@ -73,17 +85,17 @@ loop-less c = search needs
 
 loop-again : tie.Need-loop-again Inv-loop μ-loop
 loop-again c =
-    let z = c .before .before .before .before .before .before .before .before .before .before in
+    let z = c .before .before .before .before .before .before .before .before .before .before .before .before in
     let a = z .args in
-    let l = c .before .before .before .before .before .before .before .before .loop in
-    let h = c .before .before .before .before .before .before .before .loop-test .taken in
-    let w = c .before .before .before .before .before .wide32 in
-    let x = c .before .before .before .chunk-at in
+    let l = c .before .before .before .before .before .before .before .before .before .before .loop in
+    let h = c .before .before .before .before .before .before .before .before .before .loop-test .taken in
+    let w = c .before .before .before .before .before .before .before .wide32 in
+    let x = c .before .before .before .chunk-on in
     let us : a .job .booking .count ≤ length (a .job .booking .shares) = omega (arith, z .pre .count, shares-length (a .job) (z .good .1 .0)) in (
       omega arith,
       omega (arith, w .ensures .1, l .inv .1),
       omega (arith, sent-finish (a .costs) (a .job) (l .total) (l .from) (l .i) h us (x .result) (x .ensures), c .if2 .left, z .pre .deadline),
-      l .inv .3 ∙ shares-step (a .costs) (a .job) (l .total) (l .from) (l .i) h us (x .result) (x .ensures) (w .result) (w .ensures .0) (c .before .before .before .before .if1 .left) (c .if2 .left),
+      l .inv .3 ∙ shares-step (a .costs) (a .job) (l .total) (l .from) (l .i) h us (x .result) (x .ensures) (w .result) (w .ensures .0) (c .before .before .before .before .before .before .if1 .left) (c .if2 .left),
     )
 
 wide32-requires-2 : tie.Need-wide32-requires-2 Inv-loop μ-loop
@@ -112,7 +124,10 @@ shares-kept-spec =
     element-copy-out-wide32
     wide32-requires
     returns
-    chunk-at-requires
+    element-copy-out-chunk-on
+    mul-chunk-on
+    element-copy-out-chunk-on-2
+    chunk-on-requires
     returns-2
     add-total
     add-i
