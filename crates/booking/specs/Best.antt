@@ -1,7 +1,7 @@
 -- Demand 2 on one booking, in the demand's own words. A choice is any start, any different nodes free at it and any division into whole
 -- units that end by the deadline; a booking is the best of all choices.
 use mathlib.Core.Path.{_≡_}
-use mathlib.Core.List.{List, [], _∷_, List·Memᴰ}
+use mathlib.Core.List.{List, List·Memᴰ}
 use mathlib.Core.Logic.{_⊎_}
 use Prim.Native.Nat.{ℕ, _-_, _≤_, _<_}
 use lib.ListN.{length, getD, take}

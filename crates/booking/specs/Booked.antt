@@ -1,17 +1,17 @@
 -- Demand 2 on one booking: it is the best of all choices, or there is no choice at all; and it is the only one.
 use mathlib.Core.Path.{_≡_, refl, ap, sym, subst, subst₂, _∙_}
-use mathlib.Core.List.{List, [], _∷_, _++_, map, List·Memᴰ}
-use mathlib.Core.Logic.{_⊎_, inl, inr, ⊎-elim}
+use mathlib.Core.List.{List, [], _∷_, map}
+use mathlib.Core.Logic.{_⊎_, inl, inr}
 use mathlib.Core.Bool.{true, cond}
-use Prim.Native.Nat.{ℕ, zero, suc, _+_, _-_, _≤_, _<_, max}
-use native.Mathlib.Nat.{le-antisymm, add-zero}
+use Prim.Native.Nat.{ℕ, zero, suc, _+_, _-_, _≤_, _<_}
+use native.Mathlib.Nat.{add-zero}
 use native.Mathlib.Decide.{decLe, decLt}
 use native.Mathlib.Omega.{arith}
 use lib.ListN.{length, take, replicate, length-map}
 use lib.Seq.{take-at, length-take-le}
-use Rattle.lists.specs.Laws.{All, Pairs, Differ, all-map, all-both, all-image, all-take, pairs-map, pairs-take, pairs-image}
+use Rattle.lists.specs.Laws.{all-map, all-both, all-image, all-take, pairs-take, pairs-image}
 use Rattle.shares.specs.Model.{sum, finish, capacity, greedy, earliest, answers}
-use Rattle.shares.specs.Chunks.{finish-latest, finish-shift}
+use Rattle.shares.specs.Chunks.{finish-shift}
 use Rattle.shares.specs.Capacity.{longer, at-most-window}
 use Rattle.shares.specs.Optimal.{optimal}
 use Rattle.shares.specs.Least.{IsFewest, IsEarliest, fewest-nodes, earliest-least, earliest-within}
@@ -20,12 +20,11 @@ use Rattle.shares.specs.Answers.{answered-is}
 use Rattle.keys.specs.declared.Key.{Key}
 use Rattle.booking.specs.declared.Request.{Request}
 use Rattle.booking.specs.declared.Found.{Found}
-use Rattle.booking.specs.declared.Booking.{Booking}
 use Rattle.booking.specs.Model.{startAt, ranked, search, bookingOf, bookedAt, bookOf}
 use Rattle.booking.specs.Search.{keyAt, Enough, IsFirst, IsNone, search-is}
 use Rattle.booking.specs.Best.{freeAt, Known, Choice, Before, BestChoice, chosen, units, Best}
 use Rattle.booking.specs.Rank.{IsKey, IsRank, ranked-is}
-use Rattle.booking.specs.Choose.{sorted-early, no-more, free-by, before-all, first-before, times-grow}
+use Rattle.booking.specs.NoneEarlier.{sorted-early, no-more, free-by, before-all, first-before, times-grow}
 
 -- a share list of some units has a first share
 pub some-share : (xs : List ℕ) → 1 ≤ sum xs → 1 ≤ length xs

@@ -3,8 +3,8 @@ pub mod Model
 pub mod Search
 pub mod Best
 pub mod Rank
-pub mod Choose
+pub mod NoneEarlier
 pub mod Booked
 pub mod Only
 pub mod Steps
-pub mod Again
+pub mod Reranked

@@ -1,8 +1,8 @@
 -- One job's booking, in the words and the order of document 01, "The deadline walk", steps 1 to 5.
 -- Everything here is a definition; nothing is assumed.
-use Prim.Native.Nat.{ℕ, zero, suc, _+_, _-_, max}
+use Prim.Native.Nat.{ℕ, suc, _+_, _-_, max}
 use mathlib.Core.List.{List, [], _∷_, _++_, map}
-use mathlib.Core.Bool.{Bool, cond}
+use mathlib.Core.Bool.{cond}
 use lib.Dec.{leb}
 use lib.ListN.{length, take, replicate}
 use Rattle.shares.specs.Model.{capacity, greedy, earliest, answers}

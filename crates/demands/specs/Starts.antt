@@ -1,7 +1,7 @@
 -- Waiting jobs start at different ticks, since their first sends share no tick of the link. So a move to the next start begins one job, and a
 -- timetable of 64 records holds its lines: after a refusal with 10 shorter moves get through.
 use mathlib.Core.Path.{_≡_, refl, sym, _∙_}
-use mathlib.Core.List.{List, [], _∷_, map, List·Memᴰ}
+use mathlib.Core.List.{List, [], _∷_, List·Memᴰ}
 use mathlib.Core.Bool.{Bool, true, false, cond}
 use Prim.Native.Nat.{ℕ, _≤_}
 use native.Mathlib.Omega.{arith}
@@ -11,7 +11,6 @@ use Rattle.lists.specs.Laws.{All, Pairs, all-map, all-both, perm-all, perm-pair
 use Rattle.shares.specs.declared.Costs.{Costs}
 use Rattle.booking.specs.Best.{chosen, units}
 use Rattle.walk.specs.declared.Job.{Job}
-use Rattle.walk.specs.declared.Chunk.{Chunk}
 use Rattle.walk.specs.Model.{spansFrom}
 use Rattle.walk.specs.Chain.{Proper}
 use Rattle.walk.specs.Order.{by-start-perm}

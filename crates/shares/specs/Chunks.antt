@@ -1,12 +1,12 @@
 -- A share list's chunk finishes and its finish, as the paper writes them.
-use mathlib.Core.Path.{_≡_, refl, ap, sym, _∙_}
+use mathlib.Core.Path.{_≡_, refl, ap}
 use mathlib.Core.List.{List, [], _∷_}
 use mathlib.Core.Logic.{_↔_}
-use Prim.Native.Nat.{ℕ, zero, suc, _+_, _*_, _≤_, _<_, max}
+use Prim.Native.Nat.{ℕ, zero, suc, _+_, _*_, _≤_, _<_}
 use native.Mathlib.Omega.{arith}
 use lib.ListN.{length, getD, take}
 use Rattle.shares.specs.declared.Costs.{Costs}
-use Rattle.shares.specs.Model.{sendEnd, chunkFinish, finishes, finish, sum}
+use Rattle.shares.specs.Model.{sendEnd, finishes, finish, sum}
 use Rattle.lists.specs.Laws.{All}
 
 -- There are as many chunk finishes as shares.

@@ -1,14 +1,14 @@
 -- The greedy list holds the capacity, and no other shares hold more: shown against all share lists.
-use mathlib.Core.Path.{_≡_, refl, ap, sym, subst}
+use mathlib.Core.Path.{_≡_, refl, ap, subst}
 use mathlib.Core.List.{List, [], _∷_}
-use mathlib.Core.Logic.{_⊎_, inl, inr}
-use Prim.Native.Nat.{ℕ, zero, suc, _+_, _*_, _-_, _≤_, _<_, max}
+use mathlib.Core.Logic.{inl, inr}
+use Prim.Native.Nat.{ℕ, zero, suc, _+_, _*_, _-_, _≤_}
 use native.Mathlib.Nat.{add-sub-of-le}
-use native.Mathlib.Decide.{decLe, decLt}
+use native.Mathlib.Decide.{decLt}
 use native.Mathlib.Omega.{arith}
 use lib.ListN.{length}
 use Rattle.shares.specs.declared.Costs.{Costs}
-use Rattle.shares.specs.Model.{sendEnd, chunkFinish, finish, sum, first, left, capacity, cut, greedy}
+use Rattle.shares.specs.Model.{sendEnd, finish, sum, first, left, capacity, cut, greedy}
 use Rattle.shares.specs.Lists.{Positive, NoLarger}
 use Rattle.shares.specs.Capacity.{first-most, first-fits, slack, none-fits}
 

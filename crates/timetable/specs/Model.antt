@@ -1,5 +1,5 @@
 -- What a clock move begins, issues and adds to held ticks, over lists of jobs. Everything here is a definition; nothing is assumed.
-use Prim.Native.Nat.{ℕ, suc, _+_, _-_}
+use Prim.Native.Nat.{ℕ, _+_, _-_}
 use mathlib.Core.List.{List, [], _∷_, _++_}
 use mathlib.Core.Bool.{Bool, cond, not}
 use lib.Dec.{leb}

@@ -1,25 +1,25 @@
 -- Demand 2 on the walk: it books every job exactly when each has the best of all choices behind those before it; a job fails there exactly when it
 -- has no choice at all behind the best of those before it. One booking is shown best, and the only one with these properties, in the crate booking
 -- (`book-is`, `only`).
-use mathlib.Core.Path.{_≡_, refl, ap, sym, subst, _∙_}
-use mathlib.Core.List.{List, [], _∷_, _++_, List·Permᴰ}
-use mathlib.Core.Bool.{Bool, true, false, cond, _&&_, false≢true, true≢false}
-use mathlib.Core.Logic.{_⊎_, inl, inr, ⊎-elim, _↔_}
-use Prim.Native.Nat.{ℕ, zero, suc, _+_, _-_, _≤_, _<_}
+use mathlib.Core.Path.{_≡_, refl, ap, sym, _∙_}
+use mathlib.Core.List.{List, [], _∷_, List·Permᴰ}
+use mathlib.Core.Bool.{true, false, _&&_, false≢true}
+use mathlib.Core.Logic.{_⊎_, inl, inr, ⊎-elim}
+use Prim.Native.Nat.{ℕ, _-_, _≤_}
 use native.Mathlib.Omega.{arith}
-use borrow.Author.Tests.{leb-true, leb-false, le-leb}
-use lib.Dec.{leb, eqb}
+use borrow.Author.Tests.{le-leb}
+use lib.Dec.{leb}
 use lib.ListN.{length}
-use Rattle.lists.specs.Laws.{All, Pairs, all-map}
+use Rattle.lists.specs.Laws.{Pairs}
 use Rattle.shares.specs.Model.{answers}
 use Rattle.booking.specs.declared.Booking.{Booking}
-use Rattle.booking.specs.Model.{bookingOf, bookOf}
+use Rattle.booking.specs.Model.{bookingOf}
 use Rattle.booking.specs.Best.{chosen, units, Choice, Best}
 use Rattle.booking.specs.Booked.{some-share, book-is}
 use Rattle.walk.specs.declared.Job.{Job}
 use Rattle.walk.specs.declared.Terms.{Terms}
 use Rattle.walk.specs.declared.Busy.{Busy}
-use Rattle.walk.specs.Model.{greatest, linesOf, byDeadline, deadlineOf, requestOf, step, busyAfter, plan, booksAll}
+use Rattle.walk.specs.Model.{linesOf, byDeadline, deadlineOf, requestOf, step, busyAfter, booksAll}
 use Rattle.walk.specs.Chain.{afters-length}
 use Rattle.walk.specs.Order.{Precedes, by-deadline-perm, by-deadline-sorted}
 use Rattle.walk.specs.WalkSteps.{Ready}

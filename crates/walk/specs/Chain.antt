@@ -2,7 +2,7 @@
 use mathlib.Core.Path.{_≡_, refl, ap, subst, _∙_}
 use mathlib.Core.List.{List, [], _∷_, _++_, map}
 use mathlib.Core.Logic.{_↔_}
-use mathlib.Core.Bool.{Bool, true, false, _&&_, false≢true}
+use mathlib.Core.Bool.{true, _&&_}
 use Prim.Native.Nat.{ℕ, _-_, _≤_, _<_}
 use native.Mathlib.Nat.{mul-le-mul-right}
 use native.Mathlib.Decide.{ℕ-discrete}
@@ -12,6 +12,7 @@ use lib.Dec.{leb}
 use lib.ListN.{length, set, length-set}
 use lib.Seq.{getD-set-same, getD-set-other}
 use Rattle.lists.specs.Laws.{All, Pairs, all-map, all-both, all-image, pairs-map}
+use Rattle.limits.specs.Tests.{and-both}
 use Rattle.shares.specs.declared.Costs.{Costs}
 use Rattle.shares.specs.Model.{sendEnd, finish}
 use Rattle.shares.specs.Lists.{Positive}
@@ -32,18 +33,14 @@ abbrev pub Chain : Busy → List Span → Type 0
 Chain b [] = Unit
 Chain b (x ∷ xs) = Fits b x × Chain (after b (x .chunk)) xs
 
-both : (a b : Bool) → (a && b) ≡ true → (a ≡ true) × (b ≡ true)
-both true b e = (refl, e)
-both false b e = absurd (false≢true e)
-
 -- The test of the spans one after the other tells that they are a chain.
 pub fit-all-chain : (b : Busy) (xs : List Span) → (fitAll b xs ≡ true) ↔ Chain b xs
 unfolding fitAll
 fit-all-chain b [] = (λ e. tt, λ h. refl)
 fit-all-chain b (x ∷ xs) =
     let rest = fit-all-chain (after b (x .chunk)) xs in (
-      λ e. let p = both (leb (b .link) (x .chunk .start) && leb (freeAt (b .free) (x .chunk .node)) (x .from)) (fitAll (after b (x .chunk)) xs) e in
-          let q = both (leb (b .link) (x .chunk .start)) (leb (freeAt (b .free) (x .chunk .node)) (x .from)) (p .0) in
+      λ e. let p = and-both (leb (b .link) (x .chunk .start) && leb (freeAt (b .free) (x .chunk .node)) (x .from)) (fitAll (after b (x .chunk)) xs) e in
+          let q = and-both (leb (b .link) (x .chunk .start)) (leb (freeAt (b .free) (x .chunk .node)) (x .from)) (p .0) in
           ((leb-true _ _ (q .0), leb-true _ _ (q .1)), rest .0 (p .1)),
       λ h. rw (le-leb (b .link) (x .chunk .start) (h .0 .0), le-leb (freeAt (b .free) (x .chunk .node)) (x .from) (h .0 .1)) (rest .1 (h .1)),
     )

@@ -1,6 +1,6 @@
 -- The deadline walk, in the words and the order of document 01. Everything here is a definition; nothing is assumed.
 pub use Rattle.limits.specs.Model.{Between}
-use Prim.Native.Nat.{ℕ, zero, suc, _+_, _-_, _≤_, _<_, max}
+use Prim.Native.Nat.{ℕ, suc, _+_, _-_, _≤_, _<_, max}
 use mathlib.Core.Path.{_≡_}
 use mathlib.Core.List.{List, [], _∷_, _++_, map}
 use mathlib.Core.Bool.{Bool, true, _&&_}

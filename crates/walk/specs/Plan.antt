@@ -1,7 +1,7 @@
 -- The plan of a walk: its spans follow one another, its starts grow, and each of its jobs is what its walk makes of it.
-use mathlib.Core.Path.{_≡_, refl, ap, sym, subst, _∙_}
-use mathlib.Core.List.{List, [], _∷_, _++_, map}
-use Prim.Native.Nat.{ℕ, zero, suc, _+_, _*_, _-_, _≤_, _<_}
+use mathlib.Core.Path.{_≡_, refl, ap, _∙_}
+use mathlib.Core.List.{List, [], _∷_, map}
+use Prim.Native.Nat.{ℕ, suc, _-_, _≤_, _<_}
 use native.Mathlib.Nat.{mul-le-mul-right}
 use native.Mathlib.Omega.{arith}
 use lib.ListN.{length, set}
@@ -14,9 +14,8 @@ use Rattle.booking.specs.Booked.{some-share}
 use Rattle.walk.specs.declared.Job.{Job}
 use Rattle.walk.specs.declared.Terms.{Terms}
 use Rattle.walk.specs.declared.Busy.{Busy}
-use Rattle.walk.specs.declared.Chunk.{Chunk}
 use Rattle.walk.specs.Model.{greatest, chunkOn, chunksFrom, linesOf, spansFrom, spansOf, spansOfAll, after, afters, requestOf, step, busyAfter, plan}
-use Rattle.walk.specs.Chain.{Fits, Chain, chain-job, free-other, afters-length}
+use Rattle.walk.specs.Chain.{Chain, chain-job, free-other, afters-length}
 use Rattle.walk.specs.Chunks.{Sends}
 use Rattle.walk.specs.WalkSteps.{best-sends}
 use Rattle.walk.specs.BestWalk.{BestAll}

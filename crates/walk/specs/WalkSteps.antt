@@ -14,9 +14,9 @@ use Rattle.shares.specs.Model.{answers}
 use Rattle.booking.specs.declared.Request.{Request}
 use Rattle.booking.specs.declared.Booking.{Booking}
 use Rattle.booking.specs.Model.{bookingOf, ranked}
-use Rattle.booking.specs.Best.{chosen, units, Best}
+use Rattle.booking.specs.Best.{chosen, Best}
 use Rattle.booking.specs.Rank.{ranked-is}
-use Rattle.booking.specs.Choose.{no-more}
+use Rattle.booking.specs.NoneEarlier.{no-more}
 use Rattle.booking.specs.Booked.{book-is}
 use Rattle.walk.specs.declared.Job.{Job}
 use Rattle.walk.specs.declared.Terms.{Terms}

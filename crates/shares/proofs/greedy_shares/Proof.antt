@@ -2,13 +2,13 @@
 -- window that are left, are the greedy list; behind them the array is 0. The measure is the nodes that are left.
 use mathlib.Core.Path.{_≡_, refl, sym, ap, _∙_}
 use mathlib.Core.List.{_++_}
-use Prim.Native.Nat.{ℕ, _+_, _-_, _≤_, _<_}
+use Prim.Native.Nat.{_+_, _-_, _≤_}
 use native.Mathlib.Omega.{arith}
 use native.Mathlib.Nat.{sub-zero}
 use borrow.Author.Tests.{not-true, not-false}
 use lib.ListN.{length, take, drop, replicate, length-set}
 use Rattle.shares.specs.declared.Share.{Share}
-use Rattle.shares.specs.Model.{first, greedy, answers, nextOf, stored}
+use Rattle.shares.specs.Model.{first, greedy, nextOf, stored}
 use Rattle.shares.specs.declared.Share.{Share}
 use Rattle.shares.specs.Answers.{answered-is, shares-refused, stored-more, greedy-stops, greedy-more, greedy-whole}
 use borrow.Author.Needs.{needs}

@@ -1,5 +1,5 @@
 -- `planner::Farm::account_answer` meets its contract, one return a question.
-use mathlib.Core.Path.{_≡_, sym, _∙_}
+use mathlib.Core.Path.{sym, _∙_}
 use native.Mathlib.Omega.{arith}
 use borrow.Author.Tests.{not-true, not-false}
 use Rattle.limits.specs.Says.{between-is}

@@ -1,5 +1,5 @@
 -- `Farm::clock` meets its contract: a derivation in the borrow checker's logic, and what it asks.
-use mathlib.Core.Path.{_≡_, refl, ap, sym, _∙_, subst}
+use mathlib.Core.Path.{refl, ap, sym, _∙_, subst}
 use Prim.Native.Nat.{ℕ}
 use mathlib.Core.List.{[], _∷_}
 use lib.ListN.{length}

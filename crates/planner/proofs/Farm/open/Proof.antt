@@ -1,12 +1,10 @@
 -- `planner::Farm::open` meets its contract, one return a question.
 use mathlib.Core.Path.{_≡_, refl, sym, ap, _∙_}
 use mathlib.Core.Bool.{true, false}
-use Prim.Native.Nat.{_≤_}
-use native.Mathlib.Omega.{arith}
 use lib.ListN.{length}
 use lib.Seq.{take-length}
 use borrow.Author.Tests.{not-true, not-false}
-use Rattle.planner.specs.Model.{between, costsWithin, allAtMost, greatest}
+use Rattle.planner.specs.Model.{between, allAtMost, greatest}
 use Rattle.planner.specs.Calls.{showsWithin}
 use Rattle.limits.specs.Says.{between-is}
 use Rattle.planner.specs.CallsSteps.{no-nodes, no-costs, no-shows, opens}

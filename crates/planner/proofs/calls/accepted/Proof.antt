@@ -1,7 +1,7 @@
 -- `planner::calls::accepted` meets its contract: the job of the new number, wherever the plan has it.
-use mathlib.Core.Path.{_≡_, refl, sym, ap, subst, _∙_}
+use mathlib.Core.Path.{refl, sym, subst}
 use Rattle.walk.specs.Chunks.{Sends}
-use Rattle.planner.specs.CallsSteps.{Accepting, of-number, empty-sends}
+use Rattle.planner.specs.CallsSteps.{of-number, empty-sends}
 use borrow.Author.Needs.{needs}
 use Rattle.planner.proofs.calls.accepted.Statement.{statement}
 use Rattle.planner.proofs.calls.accepted.Tie as tie

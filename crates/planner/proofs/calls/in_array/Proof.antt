@@ -3,7 +3,7 @@ use mathlib.Core.Path.{_≡_, refl, sym, ap, ap₂, _∙_}
 use mathlib.Core.List.{_++_}
 use Prim.Native.Nat.{ℕ, _≤_, _-_}
 use native.Mathlib.Omega.{arith}
-use lib.ListN.{length, take, drop, getD, replicate, length-set, take-append-drop}
+use lib.ListN.{length, take, drop, replicate, length-set, take-append-drop}
 use lib.Seq.{take-length}
 use Rattle.planner.specs.CallsSteps.{copy-next}
 use borrow.Author.Needs.{needs}

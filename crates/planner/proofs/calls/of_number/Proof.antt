@@ -1,11 +1,10 @@
 -- `planner::calls::of_number` meets its contract: none of the jobs passed has the number.
-use mathlib.Core.Path.{_≡_, refl, sym, ap, _∙_}
+use mathlib.Core.Path.{_≡_, refl, sym, _∙_}
 use Prim.Native.Nat.{_-_, _≤_}
 use native.Mathlib.Omega.{arith}
-use lib.ListN.{length, getD, take, drop, drop-of-length-le}
+use lib.ListN.{getD, take, drop, drop-of-length-le}
 use lib.Seq.{getD-take, length-take-le}
 use borrow.Author.Tests.{eq-eqb, ne-eqb}
-use Rattle.walk.specs.declared.Job.{Job}
 use Rattle.planner.specs.Model.{noJob}
 use Rattle.planner.specs.Calls.{ofNumber}
 use Rattle.planner.specs.CallsSteps.{number-next}

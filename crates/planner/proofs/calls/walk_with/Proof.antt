@@ -1,9 +1,9 @@
 -- `planner::calls::walk_with` meets its contract: what is walked is the waiting jobs and the new one by deadline.
-use mathlib.Core.Path.{_≡_, ap, _∙_}
+use mathlib.Core.Path.{ap, _∙_}
 use native.Mathlib.Omega.{arith}
 use Rattle.planner.specs.Model.{termsOf, busyOf, booksAll}
 use Rattle.planner.proofs.Sizes.{jobs-length}
-use Rattle.planner.specs.CallsSteps.{Offered, ordered-is, walk-ready}
+use Rattle.planner.specs.CallsSteps.{ordered-is, walk-ready}
 use borrow.Author.Needs.{needs}
 use Rattle.planner.proofs.calls.walk_with.Statement.{statement}
 use Rattle.planner.proofs.calls.walk_with.Tie as tie

@@ -1,7 +1,5 @@
 -- `clock::stopped` meets its contract.
-use mathlib.Core.Path.{ap}
 use borrow.Author.Needs.{needs}
-use Rattle.planner.specs.declared.Reply.{Reply}
 use Rattle.planner.proofs.clock.stopped.Statement.{statement}
 use Rattle.planner.proofs.clock.stopped.Tie as tie
 

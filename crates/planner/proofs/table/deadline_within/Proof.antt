@@ -1,6 +1,5 @@
 -- `planner::table::deadline_within` meets its contract.
 use borrow.Author.Tests.{le-ltb, lt-ltb}
-use borrow.Author.Needs.{needs}
 use Rattle.planner.proofs.table.deadline_within.Statement.{statement}
 use Rattle.planner.proofs.table.deadline_within.Tie as tie
 

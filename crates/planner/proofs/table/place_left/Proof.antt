@@ -1,6 +1,5 @@
 -- `planner::table::place_left` meets its contract.
 use borrow.Author.Tests.{le-ltb, lt-ltb}
-use borrow.Author.Needs.{needs}
 use Rattle.planner.proofs.table.place_left.Statement.{statement}
 use Rattle.planner.proofs.table.place_left.Tie as tie
 

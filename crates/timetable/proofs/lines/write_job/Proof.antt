@@ -2,8 +2,8 @@
 use mathlib.Core.Path.{_≡_, refl, ap, sym, subst, _∙_}
 use Prim.Native.Nat.{ℕ, _<_, _≤_, _-_, _+_, _*_, _^_, zero-le}
 use native.Mathlib.Omega.{arith}
-use mathlib.Core.List.{[], _∷_, List, _++_}
-use lib.ListN.{length, drop, set, length-set}
+use mathlib.Core.List.{[], _∷_, List}
+use lib.ListN.{length, set, length-set}
 use mir.Syntax.{w64, tyPtr, tyUnit, tyBool, field, mul, add, lt, unsigned, offset}
 use denote.Ref.{now}
 use borrow.Author.Tests.{ltb-true, ltb-false}

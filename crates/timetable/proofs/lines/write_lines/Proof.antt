@@ -1,9 +1,9 @@
 -- `lines::write_lines` meets its contract: a derivation in the borrow checker's logic, and what it asks.
-use mathlib.Core.Path.{_≡_, refl, ap, sym, subst, _∙_}
+use mathlib.Core.Path.{_≡_, refl, ap, sym, _∙_}
 use Prim.Native.Nat.{ℕ, _<_, _≤_, _-_, _+_, _*_, _^_, zero-le}
 use native.Mathlib.Omega.{arith}
 use native.Mathlib.Nat.{zero-add}
-use mathlib.Core.List.{[], _∷_, List, _++_}
+use mathlib.Core.List.{[], _∷_, List}
 use lib.ListN.{length, getD, take, drop}
 use mir.Syntax.{w64, tyPtr, tyUnit, tyBool, field, mul, add, lt, unsigned, offset}
 use denote.Ref.{now}
@@ -24,7 +24,7 @@ use borrow.Rule.LocalCopy.{t-val-copy}
 use borrow.Fn.World.{World}
 use borrow.Kind.Num.{vAt}
 use borrow.Kind.Unit.{rUnit}
-use Rattle.lists.specs.Laws.{All, all-front}
+use Rattle.lists.specs.Laws.{all-front}
 use Rattle.shares.specs.declared.Costs.{Costs}
 use Rattle.walk.specs.declared.Job.{Job}
 use Rattle.walk.specs.declared.Chunk.{Chunk}

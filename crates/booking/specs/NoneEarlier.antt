@@ -1,17 +1,17 @@
 -- That no earlier start and no fewer nodes do: any choice of nodes free at s has the last of as many nodes in order free by s.
 use mathlib.Core.Path.{_≡_, refl, ap, sym, subst, _∙_}
-use mathlib.Core.List.{List, [], _∷_, _++_, map, List·Memᴰ, List·Memᴰ·head, List·Memᴰ·tail, List·Memᴰ·append-cases, List·Memᴰ·cases-cons}
+use mathlib.Core.List.{List, [], _∷_, map, List·Memᴰ, List·Memᴰ·head, List·Memᴰ·tail, List·Memᴰ·append-cases, List·Memᴰ·cases-cons}
 use mathlib.Core.Logic.{_⊎_, inl, inr, ⊎-elim}
 use mathlib.Core.Bool.{true}
-use Prim.Native.Nat.{ℕ, zero, suc, _+_, _-_, _≤_, _<_}
+use Prim.Native.Nat.{ℕ, zero, suc, _-_, _≤_, _<_}
 use native.Mathlib.Decide.{decLe}
 use native.Mathlib.Omega.{arith}
-use lib.ListN.{length, getD, take, drop, length-map, take-append-drop}
+use lib.ListN.{length, take, drop, length-map, take-append-drop}
 use lib.Seq.{length-take-le}
 use Rattle.lists.specs.Laws.{All, Pairs, Differ, all-map, all-nth, all-both, all-mem, all-image, pairs-map, pairs-image, pairs-across, mem-image, pigeon}
 use Rattle.keys.specs.declared.Key.{Key}
 use Rattle.keys.specs.Model.{noKey, noLater}
-use Rattle.keys.specs.Sorted.{Sorted, no-later-refl, no-later-prior, no-later-trans}
+use Rattle.keys.specs.Sorted.{Sorted, no-later-refl, no-later-prior}
 use Rattle.booking.specs.Search.{keyAt}
 use Rattle.booking.specs.Best.{freeAt, Before}
 use Rattle.booking.specs.Rank.{keyOf, IsKey, IsRank}
