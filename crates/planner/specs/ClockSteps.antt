@@ -7,8 +7,8 @@ use native.Mathlib.Omega.{arith}
 use borrow.Author.Tests.{leb-true, leb-false, le-leb, lt-leb, eq-eqb, ne-eqb}
 use lib.Dec.{leb, eqb}
 use lib.ListN.{length, getD, take, drop, take-append-drop}
-use lib.Seq.{take-take, take-at, length-take-le, getD-take}
-use Rattle.lists.specs.Laws.{All, Pairs, all-map, all-both, all-nth, all-take, perm-all, perm-length}
+use lib.Seq.{take-take, take-at, length-take-le}
+use Rattle.lists.specs.Laws.{All, Pairs, all-map, all-both, all-front, all-take, perm-all, perm-length}
 use Rattle.shares.specs.declared.Costs.{Costs}
 use Rattle.booking.specs.Best.{chosen}
 use Rattle.walk.specs.declared.Job.{Job}
@@ -144,8 +144,7 @@ module _ (f : Farm) (sized : Sized f) (e : passesOf f ≡ true) where
       let room : (j : Job) → JobWithin (figuresOf f) j → getD (f .held) (j .show - 1) 0 ≤ 64_000_000_000_000 =
       λ j h.
       let i : j .show - 1 < f .shows = omega (arith, h .show) in
-      subst (λ (x : ℕ). x ≤ 64_000_000_000_000) (getD-take (f .shows) (f .held) (j .show - 1) 0 i)
-      (all-nth 0 (λ (x : ℕ). x ≤ 64_000_000_000_000) (take (f .shows) (f .held)) (j .show - 1) (w .held) (omega (arith, w .shows .1, length-take-le (f .shows) (f .held) (omega (arith, w .shows .1, sized .held))))) in
+      all-front 0 (λ (x : ℕ). x ≤ 64_000_000_000_000) (f .held) (f .shows) (j .show - 1) i (omega (arith, w .shows .1, sized .held)) (w .held) in
       all-both (λ j z h. record {
         sends = waiting-sends f j (w .nodes .1) z (h .0) (h .1);
         show = (h .0 .show .0, omega (arith, h .0 .show .1, w .shows .1));

@@ -1,6 +1,6 @@
 -- What the functions promise each other: what each turn of the loops keeps, and that no sum wraps.
 use Prim.Native.Nat.{ℕ, suc, max, _+_, _*_, _-_, _≤_, _<_}
-use mathlib.Core.Path.{_≡_, refl, ap, subst, _∙_}
+use mathlib.Core.Path.{_≡_, refl, ap, _∙_}
 use mathlib.Core.List.{List, [], _∷_, _++_}
 use mathlib.Core.Bool.{Bool, true, false, _&&_, not, and-false}
 use native.Mathlib.Numerals.{add-one}
@@ -10,7 +10,7 @@ use borrow.Author.Tests.{leb-true, leb-false, le-leb, lt-leb, eq-eqb, ne-eqb}
 use lib.Dec.{leb, eqb}
 use lib.ListN.{length, getD, take, drop, set, length-drop}
 use lib.Seq.{slice, slice-cons, slice-empty, take-all, take-suc, take-suc-set, drop-cons, drop-length, getD-take, length-take-le}
-use Rattle.lists.specs.Laws.{All, all-map, all-nth}
+use Rattle.lists.specs.Laws.{All, all-map, all-front}
 use Rattle.shares.specs.declared.Costs.{Costs}
 use Rattle.shares.specs.Model.{sendEnd, chunkFinish, finish, sum}
 use Rattle.limits.specs.Model.{allAtMost, allAtLeast, CostsWithin}
@@ -291,12 +291,10 @@ module _ (c : Costs) (busy : Busy) (j : Job) (now : Busy) (t i : ℕ) (u : Fitti
 
 module _ (c : Costs) (b : Busy) (jobs : List Job) (keys : List Key) (i n : ℕ) (h : i < n) (few : n ≤ length jobs) (fits : n ≤ length keys) (inside : All (Inside n) (take n keys)) where
   pub key-inside : getD keys i noKey .place < n
-  key-inside =
-      subst (Inside n) (getD-take n keys i noKey h) (all-nth noKey (Inside n) (take n keys) i inside (omega (arith, length-take-le n keys fits)))
+  key-inside = all-front noKey (Inside n) keys n i h fits inside
 
   pub key-bounded : All (Bounded c) (take n jobs) → Bounded c (getD jobs (getD keys i noKey .place) noJob)
-  key-bounded a =
-      subst (Bounded c) (getD-take n jobs (getD keys i noKey .place) noJob key-inside) (all-nth noJob (Bounded c) (take n jobs) (getD keys i noKey .place) a (omega (arith, length-take-le n jobs few, key-inside)))
+  key-bounded a = all-front noJob (Bounded c) jobs n (getD keys i noKey .place) key-inside few a
 
   turn-cons : spansOfAll c (inOrder (take n jobs) (slice i n keys))
       ≡ spansOf c (getD jobs (getD keys i noKey .place) noJob) ++ spansOfAll c (inOrder (take n jobs) (slice (i + 1) n keys))
