@@ -13,7 +13,7 @@ use Rattle.planner.specs.declared.Farm.{Farm}
 use Rattle.limits.specs.Model.{allAtMost, allAtLeast, costsWithin}
 use Rattle.planner.specs.Model.{chunksFrom, spansOfAll, afters, waitingOf, keysBy, plan, booksAll, fitAll}
 use Rattle.planner.specs.Passes.{countsWithin, timesWithin, waitingPass, passesOf}
-use Rattle.planner.specs.Calls.{Said, granted, refused, openFarm, ofNumber, offerAsked, offerSaid, offerFarm}
+use Rattle.planner.specs.Calls.{Yes, Said, granted, refused, openFarm, ofNumber, offerAsked, offerSaid, offerFarm}
 
 -- an offer of a job
 pub record Offer : Type 0 where
@@ -37,7 +37,7 @@ pub record Row : Type 0 where
 
 -- job, start, finish, count of nodes, and shares
 abbrev pub yes : ℕ → ℕ → ℕ → ℕ → List ℕ → Outcome
-yes j s t k xs = record { answer = granted (j ∷ s ∷ t ∷ k ∷ []); shares = xs }
+yes j s t k xs = record { answer = granted Yes (j ∷ s ∷ t ∷ k ∷ []); shares = xs }
 
 -- refused with a number
 abbrev pub no : ℕ → Outcome

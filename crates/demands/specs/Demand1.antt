@@ -17,7 +17,7 @@ use Rattle.walk.specs.declared.Chunk.{Chunk}
 use Rattle.planner.specs.declared.Farm.{Farm}
 use Rattle.planner.specs.Model.{greatest, between, costsWithin}
 use Rattle.planner.specs.Passes.{passesOf}
-use Rattle.planner.specs.Calls.{Said, granted, refused, showsWithin, openSaid, openFarm, unopened, openedWith, accountSaid, heldBy, allowanceOf, planned, accepts, withPlan, ofNumber, yesOf, offerAsked, offerSaid, offerFarm}
+use Rattle.planner.specs.Calls.{Open, Yes, Clock, Shown, Account, Said, granted, refused, showsWithin, openSaid, openFarm, unopened, openedWith, accountSaid, heldBy, allowanceOf, planned, accepts, withPlan, ofNumber, yesOf, offerAsked, offerSaid, offerFarm}
 use Rattle.planner.specs.Clock.{issued, movedFarm, moveAsked, moveSaid, moveFarm, moveMemory, shown, shownAsked, shownSaid, shownMemory}
 use Rattle.demands.specs.MoveAnswers.{move-is, move-stopped, shown-is, shown-stopped}
 
@@ -41,7 +41,7 @@ pub open-asks : (n : ℕ) (c : Costs) (al : List ℕ) → openSaid n c al .numbe
 unfolding openSaid firstNo
 open-asks n c al = go (between 1 n 64) (costsWithin c) (showsWithin al)
   where
-    go : (a b d : Bool) → cond {A = Said} a (cond b (cond d (granted (n ∷ length al ∷ [])) (refused 3)) (refused 2)) (refused 1) .number ≡ cond {A = ℕ} a (cond b (cond d 0 3) 2) 1
+    go : (a b d : Bool) → cond {A = Said} a (cond b (cond d (granted Open (n ∷ length al ∷ [])) (refused 3)) (refused 2)) (refused 1) .number ≡ cond {A = ℕ} a (cond b (cond d 0 3) 2) 1
     go true true true = refl
     go true true false = refl
     go true false d = refl
@@ -60,7 +60,7 @@ offer-asks f s z d =
     asked a b c e g = cond a (cond b (cond c (cond e (cond g 0 7) 6) 5) 4) 11
 
     go : (a b c e g h : Bool) (vs : List ℕ)
-        → cond {A = Said} (eqb (asked a b c e g) 0) (cond h (granted vs) (refused 8)) (refused (asked a b c e g)) .number
+        → cond {A = Said} (eqb (asked a b c e g) 0) (cond h (granted Yes vs) (refused 8)) (refused (asked a b c e g)) .number
         ≡ cond {A = ℕ} a (cond b (cond c (cond e (cond g (cond h 0 8) 7) 6) 5) 4) 11
     go true true true true true true vs = refl
     go true true true true true false vs = refl
@@ -78,7 +78,7 @@ move-asks f t n = go (passesOf f) (between (f .clock) t greatest) (leb (length (
     asked : Bool → Bool → Bool → ℕ
     asked a b c = cond a (cond b (cond c 0 10) 9) 11
 
-    go : (a b c : Bool) → cond {A = Said} (eqb (asked a b c) 0) (granted (t ∷ length (issued f t) ∷ [])) (refused (asked a b c)) .number ≡ cond {A = ℕ} a (cond b (cond c 0 10) 9) 11
+    go : (a b c : Bool) → cond {A = Said} (eqb (asked a b c) 0) (granted Clock (t ∷ length (issued f t) ∷ [])) (refused (asked a b c)) .number ≡ cond {A = ℕ} a (cond b (cond c 0 10) 9) 11
     go true true true = refl
     go true true false = refl
     go true false c = refl
@@ -92,7 +92,7 @@ shown-asks f n = go (passesOf f) (leb (length (shown f)) n)
     asked : Bool → Bool → ℕ
     asked a b = cond a (cond b 0 10) 11
 
-    go : (a b : Bool) → cond {A = Said} (eqb (asked a b) 0) (granted (length (shown f) ∷ [])) (refused (asked a b)) .number ≡ cond {A = ℕ} a (cond b 0 10) 11
+    go : (a b : Bool) → cond {A = Said} (eqb (asked a b) 0) (granted Shown (length (shown f) ∷ [])) (refused (asked a b)) .number ≡ cond {A = ℕ} a (cond b 0 10) 11
     go true true = refl
     go true false = refl
     go false b = refl
@@ -102,7 +102,7 @@ pub account-asks : (f : Farm) (s : ℕ) → accountSaid f s .number ≡ firstNo 
 unfolding accountSaid firstNo
 account-asks f s = go (passesOf f) (between 1 s (f .shows)) (s ∷ heldBy f s ∷ (heldBy f s - allowanceOf f s) ∷ [])
   where
-    go : (a b : Bool) (vs : List ℕ) → cond {A = Said} a (cond b (granted vs) (refused 4)) (refused 11) .number ≡ cond {A = ℕ} a (cond b 0 4) 11
+    go : (a b : Bool) (vs : List ℕ) → cond {A = Said} a (cond b (granted Account vs) (refused 4)) (refused 11) .number ≡ cond {A = ℕ} a (cond b 0 4) 11
     go true true vs = refl
     go true false vs = refl
     go false b vs = refl
@@ -114,7 +114,7 @@ pub open-keeps : (n : ℕ) (c : Costs) (al : List ℕ) (k : ℕ) → openSaid n 
 unfolding openSaid openFarm
 open-keeps n c al k = go (between 1 n 64) (costsWithin c) (showsWithin al)
   where
-    go : (a b d : Bool) → cond {A = Said} a (cond b (cond d (granted (n ∷ length al ∷ [])) (refused 3)) (refused 2)) (refused 1) .number ≡ suc k
+    go : (a b d : Bool) → cond {A = Said} a (cond b (cond d (granted Open (n ∷ length al ∷ [])) (refused 3)) (refused 2)) (refused 1) .number ≡ suc k
         → cond {A = Farm} (a && b && d) (openedWith n c al) unopened ≡ unopened
     go true true true e = absurd (omega arith)
     go true true false e = refl
@@ -126,7 +126,7 @@ pub offer-keeps : (f : Farm) (s z d k : ℕ) → offerSaid f s z d .number ≡ s
 unfolding offerSaid offerFarm
 offer-keeps f s z d k = go (eqb (offerAsked f s z d) 0) (accepts f s z d) (yesOf (f .costs) (ofNumber (f .used + 1) (planned f s z d)) .values)
   where
-    go : (a h : Bool) (vs : List ℕ) → cond {A = Said} a (cond h (granted vs) (refused 8)) (refused (offerAsked f s z d)) .number ≡ suc k
+    go : (a h : Bool) (vs : List ℕ) → cond {A = Said} a (cond h (granted Yes vs) (refused 8)) (refused (offerAsked f s z d)) .number ≡ suc k
         → cond {A = Farm} a (cond h (withPlan f (planned f s z d)) f) f ≡ f
     go true true vs e = absurd (omega arith)
     go true false vs e = refl
@@ -137,7 +137,7 @@ pub move-keeps : (f : Farm) (t : ℕ) (m : List Chunk) (k : ℕ) → moveSaid f 
 unfolding moveSaid moveFarm moveMemory
 move-keeps f t m k = go (eqb (moveAsked f t (length m)) 0)
   where
-    go : (a : Bool) → cond {A = Said} a (granted (t ∷ length (issued f t) ∷ [])) (refused (moveAsked f t (length m))) .number ≡ suc k
+    go : (a : Bool) → cond {A = Said} a (granted Clock (t ∷ length (issued f t) ∷ [])) (refused (moveAsked f t (length m))) .number ≡ suc k
         → (cond {A = Farm} a (movedFarm f t) f ≡ f) × (cond {A = List Chunk} a (issued f t ++ drop (length (issued f t)) m) m ≡ m)
     go true e = absurd (omega arith)
     go false e = (refl, refl)
@@ -147,7 +147,7 @@ pub shown-keeps : (f : Farm) (m : List Chunk) (k : ℕ) → shownSaid f (length 
 unfolding shownSaid shownMemory
 shown-keeps f m k = go (eqb (shownAsked f (length m)) 0)
   where
-    go : (a : Bool) → cond {A = Said} a (granted (length (shown f) ∷ [])) (refused (shownAsked f (length m))) .number ≡ suc k
+    go : (a : Bool) → cond {A = Said} a (granted Shown (length (shown f) ∷ [])) (refused (shownAsked f (length m))) .number ≡ suc k
         → cond {A = List Chunk} a (shown f ++ drop (length (shown f)) m) m ≡ m
     go true e = absurd (omega arith)
     go false e = refl
@@ -156,7 +156,7 @@ shown-keeps f m k = go (eqb (shownAsked f (length m)) 0)
 
 -- After a granted clock move the lent memory is the lines with its former contents behind them.
 pub move-writes : (f : Farm) (t : ℕ) (m : List Chunk) → moveSaid f t (length m) .number ≡ 0
-    → (moveSaid f t (length m) ≡ granted (t ∷ length (issued f t) ∷ [])) × (moveFarm f t (length m) ≡ movedFarm f t) × (moveMemory f t m ≡ issued f t ++ drop (length (issued f t)) m)
+    → (moveSaid f t (length m) ≡ granted Clock (t ∷ length (issued f t) ∷ [])) × (moveFarm f t (length m) ≡ movedFarm f t) × (moveMemory f t m ≡ issued f t ++ drop (length (issued f t)) m)
 move-writes f t m e = move-is f t m (go (moveAsked f t (length m)) refl)
   where
     go : (n : ℕ) → moveAsked f t (length m) ≡ n → moveAsked f t (length m) ≡ 0
@@ -165,7 +165,7 @@ move-writes f t m e = move-is f t m (go (moveAsked f t (length m)) refl)
 
 -- So it is after granted showing.
 pub shown-writes : (f : Farm) (m : List Chunk) → shownSaid f (length m) .number ≡ 0
-    → (shownSaid f (length m) ≡ granted (length (shown f) ∷ [])) × (shownMemory f m ≡ shown f ++ drop (length (shown f)) m)
+    → (shownSaid f (length m) ≡ granted Shown (length (shown f) ∷ [])) × (shownMemory f m ≡ shown f ++ drop (length (shown f)) m)
 shown-writes f m e = shown-is f m (go (shownAsked f (length m)) refl)
   where
     go : (n : ℕ) → shownAsked f (length m) ≡ n → shownAsked f (length m) ≡ 0

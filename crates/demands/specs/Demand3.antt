@@ -38,7 +38,7 @@ use Rattle.walk.specs.BestWalk.{BestAll, walk-best}
 use Rattle.planner.specs.CallsSteps.{walk-ready}
 use Rattle.soundness.specs.Sweep.{spans-all, spans-perm, apart-sym}
 use Rattle.demands.specs.QuestionEleven.{passes-iff}
-use Rattle.planner.specs.Calls.{Said, granted, refused, showsWithin, openFarm, openSaid, heldBy, newJob, queueOf, planned, withPlan}
+use Rattle.planner.specs.Calls.{Open, Said, granted, refused, showsWithin, openFarm, openSaid, heldBy, newJob, queueOf, planned, withPlan}
 use Rattle.demands.specs.OfferPasses.{waiting-planned}
 use Rattle.planner.specs.Clock.{begun, issued, moveAsked}
 use Rattle.demands.specs.Starts.{StartsDiffer, starts-differ, next-few, next-granted}
@@ -313,7 +313,7 @@ opening-granted : (n : ℕ) (c : Costs) (al : List ℕ) → openSaid n c al .num
 unfolding openSaid
 opening-granted n c al e = go (between 1 n 64) (costsWithin c) (showsWithin al) e
   where
-    go : (a b d : Bool) → cond {A = Said} a (cond b (cond d (granted (n ∷ length al ∷ [])) (refused 3)) (refused 2)) (refused 1) .number ≡ 0
+    go : (a b d : Bool) → cond {A = Said} a (cond b (cond d (granted Open (n ∷ length al ∷ [])) (refused 3)) (refused 2)) (refused 1) .number ≡ 0
         → (a && b && d) ≡ true
     go true true true h = refl
     go true true false h = absurd (omega arith)

@@ -7,13 +7,13 @@ use borrow.Author.Tests.{eq-eqb, ne-eqb}
 use lib.ListN.{length, drop}
 use Rattle.walk.specs.declared.Chunk.{Chunk}
 use Rattle.planner.specs.declared.Farm.{Farm}
-use Rattle.planner.specs.Calls.{granted, refused}
+use Rattle.planner.specs.Calls.{Clock, Shown, granted, refused}
 use Rattle.planner.specs.Clock.{issued, movedFarm, moveAsked, moveSaid, moveFarm, moveMemory, shown, shownAsked, shownSaid, shownMemory}
 
 -- A clock move that is asked all its questions is granted: it answers the time and the number of lines, hands the moved farm back, and the lent memory
 -- holds the lines at its front and its former contents everywhere else.
 pub move-is : (f : Farm) (t : ℕ) (m : List Chunk) → moveAsked f t (length m) ≡ 0
-    → (moveSaid f t (length m) ≡ granted (t ∷ length (issued f t) ∷ [])) × (moveFarm f t (length m) ≡ movedFarm f t) × (moveMemory f t m ≡ issued f t ++ drop (length (issued f t)) m)
+    → (moveSaid f t (length m) ≡ granted Clock (t ∷ length (issued f t) ∷ [])) × (moveFarm f t (length m) ≡ movedFarm f t) × (moveMemory f t m ≡ issued f t ++ drop (length (issued f t)) m)
 unfolding moveSaid moveFarm moveMemory
 move-is f t m e = let q = eq-eqb (moveAsked f t (length m)) 0 e in (rw q, rw q, rw q)
 
@@ -25,7 +25,7 @@ move-stopped f t m n e = let q = ne-eqb (moveAsked f t (length m)) 0 (λ h. omeg
 
 -- Showing is granted where its questions are answered yes.
 pub shown-is : (f : Farm) (m : List Chunk) → shownAsked f (length m) ≡ 0
-    → (shownSaid f (length m) ≡ granted (length (shown f) ∷ [])) × (shownMemory f m ≡ shown f ++ drop (length (shown f)) m)
+    → (shownSaid f (length m) ≡ granted Shown (length (shown f) ∷ [])) × (shownMemory f m ≡ shown f ++ drop (length (shown f)) m)
 unfolding shownSaid shownMemory
 shown-is f m e = let q = eq-eqb (shownAsked f (length m)) 0 e in (rw q, rw q)
 

@@ -21,16 +21,26 @@ use Rattle.planner.specs.Passes.{passesOf}
 
 -- ---- Answers
 
--- an answer in the paper's terms: the number of the question that was answered no, 0 where all were answered yes; and the values
+-- which answer it is: the paper's words open, yes, clock, account and no; what showing answers has no word there
+pub data Word : Type 0 where
+  Open : Word
+  Yes : Word
+  Clock : Word
+  Shown : Word
+  Account : Word
+  No : Word
+
+-- an answer in the paper's terms: its word; the number of the question that was answered no, 0 where all were answered yes; and the values
 pub record Said : Type 0 where
+  pub word : Word
   pub number : ℕ
   pub values : List ℕ
 
-abbrev pub granted : List ℕ → Said
-granted vs = record { number = 0; values = vs }
+abbrev pub granted : Word → List ℕ → Said
+granted w vs = record { word = w; number = 0; values = vs }
 
 abbrev pub refused : ℕ → Said
-refused n = record { number = n; values = [] }
+refused n = record { word = No; number = n; values = [] }
 
 abbrev pub numberOf : Question → ℕ
 numberOf question.Nodes = 1
@@ -45,13 +55,13 @@ numberOf question.Time = 9
 numberOf question.Lines = 10
 numberOf question.Farm = 11
 
--- the paper's number and values for each case of an answer
+-- the paper's word, number and values for each case of an answer
 abbrev pub said : Answer → Said
-said (answer.Open n s) = granted (n ∷ s ∷ [])
-said (answer.Yes j s t k) = granted (j ∷ s ∷ t ∷ k ∷ [])
-said (answer.Clock t n) = granted (t ∷ n ∷ [])
-said (answer.Shown n) = granted (n ∷ [])
-said (answer.Account s h c) = granted (s ∷ h ∷ c ∷ [])
+said (answer.Open n s) = granted Open (n ∷ s ∷ [])
+said (answer.Yes j s t k) = granted Yes (j ∷ s ∷ t ∷ k ∷ [])
+said (answer.Clock t n) = granted Clock (t ∷ n ∷ [])
+said (answer.Shown n) = granted Shown (n ∷ [])
+said (answer.Account s h c) = granted Account (s ∷ h ∷ c ∷ [])
 said (answer.No q) = refused (numberOf q)
 
 -- a reply says so and hands this farm back
@@ -101,7 +111,7 @@ showsWithin al = between 1 (length al) 32 && allAtMost greatest al
 
 unfoldable pub openSaid : ℕ → Costs → List ℕ → Said
 openSaid n c al =
-    cond (between 1 n 64) (cond (costsWithin c) (cond (showsWithin al) (granted (n ∷ length al ∷ [])) (refused 3)) (refused 2)) (refused 1)
+    cond (between 1 n 64) (cond (costsWithin c) (cond (showsWithin al) (granted Open (n ∷ length al ∷ [])) (refused 3)) (refused 2)) (refused 1)
 
 unfoldable pub openFarm : ℕ → Costs → List ℕ → Farm
 openFarm n c al = cond (between 1 n 64 && costsWithin c && showsWithin al) (openedWith n c al) unopened
@@ -118,7 +128,7 @@ allowanceOf f s = getD (f .allowances) (s - 1) 0
 -- charged: the held ticks above the allowance, otherwise 0
 unfoldable pub accountSaid : Farm → ℕ → Said
 accountSaid f s =
-    cond (passesOf f) (cond (between 1 s (f .shows)) (granted (s ∷ heldBy f s ∷ (heldBy f s - allowanceOf f s) ∷ [])) (refused 4)) (refused 11)
+    cond (passesOf f) (cond (between 1 s (f .shows)) (granted Account (s ∷ heldBy f s ∷ (heldBy f s - allowanceOf f s) ∷ [])) (refused 4)) (refused 11)
 
 -- ---- Offer
 
@@ -165,7 +175,7 @@ ofNumber n (j ∷ js) = cond (eqb (j .number) n) j (ofNumber n js)
 
 -- job, start, finish and count of nodes
 abbrev pub yesOf : Costs → Job → Said
-yesOf c j = granted (j .number ∷ j .booking .start ∷ finish c (j .booking .start) (units (j .booking)) ∷ j .booking .count ∷ [])
+yesOf c j = granted Yes (j .number ∷ j .booking .start ∷ finish c (j .booking .start) (units (j .booking)) ∷ j .booking .count ∷ [])
 
 -- questions 11, 4, 5, 6 and 7 in that order: the number of the first answered no, or 0
 unfoldable pub offerAsked : Farm → ℕ → ℕ → ℕ → ℕ

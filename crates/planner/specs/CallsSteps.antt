@@ -28,7 +28,7 @@ use Rattle.planner.specs.declared.Answer.the-variants as answer
 use Rattle.planner.specs.Model.{greatest, between, costsWithin, emptyJob, noJob, waitingOf, termsOf, busyOf, byDeadline, plan, booksAll}
 use Rattle.planner.specs.Passes.{passesOf}
 use Rattle.planner.specs.PassesSteps.{passes-within, passes-jobs}
-use Rattle.planner.specs.Calls.{said, granted, refused, numberOf, Replies, unopened, openedWith, showsWithin, openSaid, openFarm, heldBy, allowanceOf, accountSaid, planned, accepts, nextFarm, withPlan, ofNumber, yesOf, offerAsked, offerSaid, offerFarm}
+use Rattle.planner.specs.Calls.{Account, said, granted, refused, numberOf, Replies, unopened, openedWith, showsWithin, openSaid, openFarm, heldBy, allowanceOf, accountSaid, planned, accepts, nextFarm, withPlan, ofNumber, yesOf, offerAsked, offerSaid, offerFarm}
 
 -- ---- Opening
 
@@ -86,7 +86,7 @@ unfolding accountSaid
 account-unknown f s e k = rw (e, k)
 
 pub account-told : (f : Farm) (s : ℕ) → passesOf f ≡ true → between 1 s (f .shows) ≡ true
-    → accountSaid f s ≡ granted (s ∷ heldBy f s ∷ (heldBy f s - allowanceOf f s) ∷ [])
+    → accountSaid f s ≡ granted Account (s ∷ heldBy f s ∷ (heldBy f s - allowanceOf f s) ∷ [])
 unfolding accountSaid
 account-told f s e k = rw (e, k)
 

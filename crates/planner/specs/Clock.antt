@@ -12,7 +12,7 @@ use Rattle.walk.specs.declared.Chunk.{Chunk}
 use Rattle.planner.specs.declared.Farm.{Farm}
 use Rattle.planner.specs.Model.{greatest, between, spansOfAll, afters, byStart, waitingOf, busyOf}
 use Rattle.planner.specs.Passes.{passesOf}
-use Rattle.planner.specs.Calls.{Said, granted, refused}
+use Rattle.planner.specs.Calls.{Clock, Shown, Said, granted, refused}
 
 -- ---- What a move begins
 
@@ -53,7 +53,7 @@ moveAsked f t n = cond (passesOf f) (cond (between (f .clock) t greatest) (cond 
 
 -- the time and the number of lines
 unfoldable pub moveSaid : Farm → ℕ → ℕ → Said
-moveSaid f t n = cond (eqb (moveAsked f t n) 0) (granted (t ∷ length (issued f t) ∷ [])) (refused (moveAsked f t n))
+moveSaid f t n = cond (eqb (moveAsked f t n) 0) (granted Clock (t ∷ length (issued f t) ∷ [])) (refused (moveAsked f t n))
 
 -- the farm that it hands back
 unfoldable pub moveFarm : Farm → ℕ → ℕ → Farm
@@ -79,7 +79,7 @@ shownAsked f n = cond (passesOf f) (cond (leb (length (shown f)) n) 0 10) 11
 
 -- their count
 unfoldable pub shownSaid : Farm → ℕ → Said
-shownSaid f n = cond (eqb (shownAsked f n) 0) (granted (length (shown f) ∷ [])) (refused (shownAsked f n))
+shownSaid f n = cond (eqb (shownAsked f n) 0) (granted Shown (length (shown f) ∷ [])) (refused (shownAsked f n))
 
 -- the lent memory after it
 unfoldable pub shownMemory : Farm → List Chunk → List Chunk

@@ -28,7 +28,7 @@ use Rattle.planner.specs.declared.clock.Issue.{Issue}
 use Rattle.planner.specs.Model.{greatest, between, Between, spansOfAll, afters, byStart, waitingOf, busyOf, JobSized, Sized}
 use Rattle.planner.specs.Passes.{passesOf, figuresOf, JobWithin}
 use Rattle.planner.specs.PassesSteps.{passes-within, passes-jobs}
-use Rattle.planner.specs.Calls.{numberOf, granted, Replies}
+use Rattle.planner.specs.Calls.{Clock, Shown, numberOf, granted, Replies}
 use Rattle.planner.specs.Clock.{keep, startsBy, startsAfter, linesOfAll, raised, begun, left, issued, movedFarm, moveAsked, moveSaid, moveFarm, moveMemory, moveLines, shown, shownAsked, shownSaid, shownMemory, shownLines}
 
 -- what questions 11, 9 and 10 ask, all answered yes
@@ -251,7 +251,7 @@ unfolding moveSaid moveFarm
 move-goes f t n ordered k lines next x a e m =
     let z = eq-eqb (moveAsked f t n) 0 a in
     record {
-      replies = record { says = rw z (ap (λ (i : ℕ). granted (t ∷ i ∷ [])) (e ∙ sym (begun-lines f ordered k t x))); hands = rw z m };
+      replies = record { says = rw z (ap (λ (i : ℕ). granted Clock (t ∷ i ∷ [])) (e ∙ sym (begun-lines f ordered k t x))); hands = rw z m };
       due = record {
         few = x .few;
         sends = can-begin-sends f (take k ordered) (x .ready);
@@ -307,7 +307,7 @@ module _ (f : Farm) (t : ℕ) (few : f .waiting ≤ length (f .jobs)) (late : Al
       let z : eqb (moveAsked f t n) 0 ≡ true = eq-eqb (moveAsked f t n) 0 (move-asked f t n p b (le-leb (length (issued f t)) n (omega arith))) in
       let due : moveLines f t n ≡ [] = rw (z, none-issued) in
       subst (MoveIssues f t n) (sym e) (record {
-        replies = record { says = rw z (ap (λ (i : ℕ). granted (t ∷ i ∷ [])) (sym lines)); hands = rw z unbegun-farm };
+        replies = record { says = rw z (ap (λ (i : ℕ). granted Clock (t ∷ i ∷ [])) (sym lines)); hands = rw z unbegun-farm };
         due = record { few = omega arith; sends = tt; lines = sym due; fits = subst (λ (l : List Chunk). length l ≤ n) (sym due) (omega arith) };
       })
 
@@ -377,7 +377,7 @@ unfolding shownSaid
 show-goes f n ordered lines w o h a e =
     let z = eq-eqb (shownAsked f n) 0 a in
     record {
-      replies = record { says = rw z (ap (λ (i : ℕ). granted (i ∷ [])) (e ∙ sym (shown-lines f ordered o h))); hands = refl };
+      replies = record { says = rw z (ap (λ (i : ℕ). granted Shown (i ∷ [])) (e ∙ sym (shown-lines f ordered o h))); hands = refl };
       due = record {
         few = w;
         sends = can-begin-sends f (take (f .waiting) ordered) h;

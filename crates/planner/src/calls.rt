@@ -6,7 +6,7 @@ ghost use lib.ListN.{length, getD, take, replicate};
 ghost use Rattle.planner.specs.CallsSteps.{Offered, PlanWith, Accepting, Accepts};
 ghost use Rattle.booking.specs.Model.{bookingOf};
 ghost use Rattle.planner.specs.Model.{emptyJob};
-ghost use Rattle.planner.specs.Calls.{said, granted, Replies, unopened, openSaid, openFarm, accountSaid, ofNumber, offerSaid, offerFarm};
+ghost use Rattle.planner.specs.Calls.{Account, said, granted, Replies, unopened, openSaid, openFarm, accountSaid, ofNumber, offerSaid, offerFarm};
 use crate::Answer;
 use crate::Farm;
 use crate::Question;
@@ -100,7 +100,7 @@ fn in_array(row: &[u64]) -> [u64; 32]
 // A show's two columns: its held ticks, and those above its allowance.
 fn columns(held: [u64; 32], allowances: [u64; 32], show: u64) -> Answer
     requires { ⌜ (1 ≤ show) × (show ≤ 32) ⌝ }
-    ensures { λ r. ⌜ said r ≡ granted (show ∷ getD held (show - 1) 0 ∷ (getD held (show - 1) 0 - getD allowances (show - 1) 0) ∷ []) ⌝ }
+    ensures { λ r. ⌜ said r ≡ granted Account (show ∷ getD held (show - 1) 0 ∷ (getD held (show - 1) 0 - getD allowances (show - 1) 0) ∷ []) ⌝ }
 {
     let place = (show - 1) as usize;
     let ticks = held[place];
