@@ -21,18 +21,17 @@ use Rattle.planner.specs.ClockSteps.{move-granted}
 use Rattle.text.specs.Model.{padded}
 use Rattle.text.specs.Writing.{WroteWithin, wrote-same, wrote-join}
 use Rattle.printing.specs.declared.Line.{Line}
-use Rattle.printing.specs.declared.Word.{Word}
 use Rattle.printing.specs.declared.Word.the-variants as word
 use Rattle.printing.specs.Model.{lineText}
-use Rattle.protocol.specs.Model.{answerText, chunkText, chunkTexts, lent}
+use Rattle.protocol.specs.Model.{printedAs, answerText, chunkText, chunkTexts, lent}
 
 -- ---- An answer's line
 
 -- its word and values where it was granted, else `no` and the number
-unfoldable pub lineWith : Word → Said → Line
-lineWith w s =
+unfoldable pub lineWith : Said → Line
+lineWith s =
     cond (eqb (s .number) 0)
-    (record { word = w; count = length (s .values); numbers = padded 7 (s .values) })
+    (record { word = printedAs (s .word); count = length (s .values); numbers = padded 7 (s .values) })
     (record { word = word.No; count = 1; numbers = padded 7 (s .number ∷ []) })
 
 abbrev pub textOf : Line → List ℕ
@@ -51,23 +50,23 @@ no-number question.Time = refl
 no-number question.Lines = refl
 no-number question.Farm = refl
 
-pub line-text : (w : Word) (a : Answer) → textOf (lineWith w (said a)) ≡ answerText w (said a)
+pub line-text : (a : Answer) → textOf (lineWith (said a)) ≡ answerText (said a)
 unfolding lineWith answerText
-line-text w (answer.Open n s) = refl
-line-text w (answer.Yes j s t k) = refl
-line-text w (answer.Clock t n) = refl
-line-text w (answer.Shown n) = refl
-line-text w (answer.Account s h c) = refl
-line-text w (answer.No q) = rw (no-number q)
+line-text (answer.Open n s) = refl
+line-text (answer.Yes j s t k) = refl
+line-text (answer.Clock t n) = refl
+line-text (answer.Shown n) = refl
+line-text (answer.Account s h c) = refl
+line-text (answer.No q) = rw (no-number q)
 
-pub line-count : (w : Word) (a : Answer) → lineWith w (said a) .count ≤ 7
+pub line-count : (a : Answer) → lineWith (said a) .count ≤ 7
 unfolding lineWith
-line-count w (answer.Open n s) = omega arith
-line-count w (answer.Yes j s t k) = omega arith
-line-count w (answer.Clock t n) = omega arith
-line-count w (answer.Shown n) = omega arith
-line-count w (answer.Account s h c) = omega arith
-line-count w (answer.No q) = rw (no-number q) (omega arith)
+line-count (answer.Open n s) = omega arith
+line-count (answer.Yes j s t k) = omega arith
+line-count (answer.Clock t n) = omega arith
+line-count (answer.Shown n) = omega arith
+line-count (answer.Account s h c) = omega arith
+line-count (answer.No q) = rw (no-number q) (omega arith)
 
 -- ---- The chunk lines of a clock move
 
@@ -75,11 +74,11 @@ line-count w (answer.No q) = rw (no-number q) (omega arith)
 abbrev pub chunksBefore : Line → ℕ
 chunksBefore l = getD (l .numbers) 1 0
 
-pub lines-said : (f : Farm) (t : ℕ) → chunksBefore (lineWith word.Clock (moveSaid f t lent)) ≡ length (moveLines f t lent)
+pub lines-said : (f : Farm) (t : ℕ) → chunksBefore (lineWith (moveSaid f t lent)) ≡ length (moveLines f t lent)
 unfolding lineWith moveSaid
 lines-said f t = go (eqb (moveAsked f t lent) 0) refl
   where
-    go : (b : Bool) → eqb (moveAsked f t lent) 0 ≡ b → chunksBefore (lineWith word.Clock (moveSaid f t lent)) ≡ length (moveLines f t lent)
+    go : (b : Bool) → eqb (moveAsked f t lent) 0 ≡ b → chunksBefore (lineWith (moveSaid f t lent)) ≡ length (moveLines f t lent)
     go true e = rw e
     go false e = rw (e, e)
 

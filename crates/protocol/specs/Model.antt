@@ -14,6 +14,7 @@ use Rattle.text.specs.Model.{newline}
 use Rattle.reading.specs.declared.Kind.{Kind}
 use Rattle.reading.specs.declared.Kind.the-variants as kind
 use Rattle.reading.specs.Model.{lineKind, readable, numbersOf}
+use Rattle.planner.specs.Calls as calls
 use Rattle.printing.specs.declared.Word.{Word}
 use Rattle.printing.specs.declared.Word.the-variants as word
 use Rattle.printing.specs.Model.{lineText}
@@ -24,9 +25,18 @@ use Rattle.printing.specs.Model.{lineText}
 abbrev pub refusal : ℕ → List ℕ
 refusal n = lineText word.No (n ∷ [])
 
+-- the word of an answer's line. No line of the program asks for showing; the word of the lines that it writes stands for it.
+abbrev pub printedAs : calls.Word → Word
+printedAs calls.Open = word.Open
+printedAs calls.Yes = word.Yes
+printedAs calls.Clock = word.Clock
+printedAs calls.Shown = word.Chunk
+printedAs calls.Account = word.Account
+printedAs calls.No = word.No
+
 -- an answer: its word and values where all questions were answered yes
-unfoldable pub answerText : Word → Said → List ℕ
-answerText w s = cond (eqb (s .number) 0) (lineText w (s .values)) (refusal (s .number))
+unfoldable pub answerText : Said → List ℕ
+answerText s = cond (eqb (s .number) 0) (lineText (printedAs (s .word)) (s .values)) (refusal (s .number))
 
 -- `chunk` with the record's seven fields
 abbrev pub chunkText : Chunk → List ℕ
@@ -54,14 +64,14 @@ costsIn ns = record { send = getD ns 1 0; compute = getD ns 2 0; linksetup = get
 unfoldable pub farmLine : List ℕ → List ℕ → Answered
 farmLine ns al = record {
   farm = openFarm (getD ns 0 0) (costsIn ns) al;
-  text = answerText word.Open (openSaid (getD ns 0 0) (costsIn ns) al);
+  text = answerText (openSaid (getD ns 0 0) (costsIn ns) al);
 }
 
 -- `job` show size deadline
 unfoldable pub jobLine : Farm → List ℕ → Answered
 jobLine f ns = record {
   farm = offerFarm f (getD ns 0 0) (getD ns 1 0) (getD ns 2 0);
-  text = answerText word.Yes (offerSaid f (getD ns 0 0) (getD ns 1 0) (getD ns 2 0));
+  text = answerText (offerSaid f (getD ns 0 0) (getD ns 1 0) (getD ns 2 0));
 }
 
 -- the program lends 1,024 chunk records to a clock move
@@ -70,11 +80,11 @@ lent = 1024
 
 -- `clock` time: its `chunk` lines first, then its `clock` line
 unfoldable pub clockLine : Farm → ℕ → Answered
-clockLine f t = record { farm = moveFarm f t lent; text = chunkTexts (moveLines f t lent) ++ answerText word.Clock (moveSaid f t lent) }
+clockLine f t = record { farm = moveFarm f t lent; text = chunkTexts (moveLines f t lent) ++ answerText (moveSaid f t lent) }
 
 -- `account` show
 unfoldable pub accountLine : Farm → ℕ → Answered
-accountLine f s = record { farm = f; text = answerText word.Account (accountSaid f s) }
+accountLine f s = record { farm = f; text = answerText (accountSaid f s) }
 
 -- a line of a kind is in its turn: `farm` before an opened farm, the others after it
 abbrev pub inTurn : Kind → Bool → Bool

@@ -8,7 +8,6 @@ use lib.ListN.{length}
 use Rattle.planner.specs.declared.Reply.{Reply}
 use Rattle.planner.specs.Calls.{said}
 use Rattle.text.specs.Writing.{WroteWithin}
-use Rattle.printing.specs.declared.Word.{Word}
 use Rattle.protocol.specs.declared.Session.{Session}
 use Rattle.protocol.specs.declared.Progress.{Progress}
 use Rattle.protocol.specs.declared.Stepped.{Stepped}
@@ -26,8 +25,8 @@ pub record Steps (x : Answered) (at : ℕ) (entry exit : List ℕ) (r : Stepped)
   pub wrote : WroteWithin largest (x .text) at entry exit (r .at)
 
 -- the answer of a reply, and its farm
-abbrev pub replied : Word → Reply → Answered
-replied w r = record { farm = r .farm; text = answerText w (said (r .answer)) }
+abbrev pub replied : Reply → Answered
+replied r = record { farm = r .farm; text = answerText (said (r .answer)) }
 
 -- what bytes come to, fed to a day so far
 abbrev pub fedTo : Session → List ℕ → Fed

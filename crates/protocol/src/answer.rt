@@ -33,12 +33,12 @@ fn number_of(question: Question) -> u64
 }
 
 // The line of an answer: the word with its values where it was granted, `no` with its number where it was refused.
-pub fn line_of(answer: Answer, word: Word) -> Line
-    ensures { λ r. ⌜ r ≡ lineWith word (said answer) ⌝ }
+pub fn line_of(answer: Answer) -> Line
+    ensures { λ r. ⌜ r ≡ lineWith (said answer) ⌝ }
 {
     match answer {
         Answer::Open { nodes, shows } => Line {
-            word,
+            word: Word::Open,
             count: 2,
             numbers: [nodes, shows, 0, 0, 0, 0, 0],
         },
@@ -48,17 +48,17 @@ pub fn line_of(answer: Answer, word: Word) -> Line
             finish,
             nodes,
         } => Line {
-            word,
+            word: Word::Yes,
             count: 4,
             numbers: [job, start, finish, nodes, 0, 0, 0],
         },
         Answer::Clock { time, lines } => Line {
-            word,
+            word: Word::Clock,
             count: 2,
             numbers: [time, lines, 0, 0, 0, 0, 0],
         },
         Answer::Shown { lines } => Line {
-            word,
+            word: Word::Chunk,
             count: 1,
             numbers: [lines, 0, 0, 0, 0, 0, 0],
         },
@@ -67,7 +67,7 @@ pub fn line_of(answer: Answer, word: Word) -> Line
             held,
             charged,
         } => Line {
-            word,
+            word: Word::Account,
             count: 3,
             numbers: [show, held, charged, 0, 0, 0, 0],
         },
@@ -99,11 +99,11 @@ fn chunk_line(chunk: Chunk) -> Line
 }
 
 // Writes the answer to a call at place `at`, and answers the place behind it.
-pub fn put_answer(out: &mut [u8], at: usize, answer: Answer, word: Word) -> usize
+pub fn put_answer(out: &mut [u8], at: usize, answer: Answer) -> usize
     requires { ⌜ at + 160 ≤ length (now out) ⌝ }
-    ensures { λ r. ⌜ WroteWithin 160 (answerText word (said answer)) at (now (out .entry)) (now (out .exit)) r ⌝ }
+    ensures { λ r. ⌜ WroteWithin 160 (answerText (said answer)) at (now (out .entry)) (now (out .exit)) r ⌝ }
 {
-    put(out, at, line_of(answer, word))
+    put(out, at, line_of(answer))
 }
 
 // Writes `no` 11: the line cannot be read, or not in its turn.

@@ -14,7 +14,6 @@ use crate::answer::put_chunks;
 use crate::answer::put_unread;
 use planner::Farm;
 use planner::Reply;
-use printing::Word;
 use printing::put;
 use reading::Kind;
 use reading::Row;
@@ -55,7 +54,7 @@ fn clock_step(farm: Farm, time: u64, out: &mut [u8], at: usize) -> Stepped
     let table = farm.clock_by_value(time, [none; 1024]);
     let reply = table.reply;
     let answer = reply.answer;
-    let line = line_of(answer, Word::Clock);
+    let line = line_of(answer);
     let chunks = table.lines;
     let numbers = line.numbers;
     let place = put_chunks(out, at, chunks, numbers[1] as usize);
@@ -71,19 +70,19 @@ pub fn put_account(farm: Farm, show: u64, out: &mut [u8], at: usize) -> usize
     requires { ⌜ at + 160 ≤ length (now out) ⌝ }
     ensures { λ r. ⌜ WroteWithin 160 (accountLine farm show .text) at (now (out .entry)) (now (out .exit)) r ⌝ }
 {
-    put_answer(out, at, farm.account_answer(show), Word::Account)
+    put_answer(out, at, farm.account_answer(show))
 }
 
 // The answer of a reply, and its farm.
-fn put_reply(reply: Reply, word: Word, out: &mut [u8], at: usize) -> Stepped
+fn put_reply(reply: Reply, out: &mut [u8], at: usize) -> Stepped
     requires { ⌜ at + 160 ≤ length (now out) ⌝ }
-    ensures { λ r. ⌜ Steps (replied word reply) at (now (out .entry)) (now (out .exit)) r ⌝ }
+    ensures { λ r. ⌜ Steps (replied reply) at (now (out .entry)) (now (out .exit)) r ⌝ }
 {
     let answer = reply.answer;
     let farm = reply.farm;
     Stepped {
         farm,
-        at: put_answer(out, at, answer, word),
+        at: put_answer(out, at, answer),
     }
 }
 
@@ -108,13 +107,8 @@ pub fn answer_row(farm: Farm, row: Row, out: &mut [u8], at: usize) -> Stepped
     let kind = row.kind;
     let numbers = row.numbers;
     match kind {
-        Kind::Farm => put_reply(opening(row), Word::Open, out, at),
-        Kind::Job => put_reply(
-            farm.offer(numbers[0], numbers[1], numbers[2]),
-            Word::Yes,
-            out,
-            at,
-        ),
+        Kind::Farm => put_reply(opening(row), out, at),
+        Kind::Job => put_reply(farm.offer(numbers[0], numbers[1], numbers[2]), out, at),
         Kind::Clock => clock_step(farm, numbers[0], out, at),
         Kind::Account => Stepped {
             farm,

@@ -14,7 +14,7 @@ line-of-requires c κs = search needs
 put-requires : tie.Need-put-requires
 put-requires c κs =
     let a = c .before .before .before .args in
-    let few : c .line-of .result .count ≤ 7 = rw (c .line-of .ensures) (line-count (a .word) (a .answer)) in
+    let few : c .line-of .result .count ≤ 7 = rw (c .line-of .ensures) (line-count (a .answer)) in
     (few, omega arith)
 
 same-length : tie.Need-same-length
@@ -25,7 +25,7 @@ returns c =
     let a = c .before .before .before .before .before .before .args in
     let l = c .before .before .before .line-of in
     let p = c .before .before .put in
-    within-same (ap textOf (l .ensures) ∙ line-text (a .word) (a .answer)) (p .ensures)
+    within-same (ap textOf (l .ensures) ∙ line-text (a .answer)) (p .ensures)
 
 pub put-answer-spec : {M : Type 1} → statement M
 put-answer-spec = tie.close (tie.spec line-of-requires put-requires same-length returns)

@@ -1,7 +1,6 @@
 -- `protocol::step::answer_row` meets its contract, kind by kind.
 use borrow.Author.Needs.{needs}
 use mathlib.Core.Path.{refl, sym}
-use Rattle.printing.specs.declared.Word.the-variants as word
 use Rattle.protocol.specs.Model.{farmLine, jobLine, accountLine, called}
 use Rattle.protocol.specs.CallSteps.{steps-as, replied-is, steps-line}
 use Rattle.protocol.proofs.step.answer_row.Statement.{statement}
@@ -65,7 +64,7 @@ returns : tie.Need-returns
 unfolding called farmLine
 returns c =
     let o = c .before .before .before .before .opening in
-    steps-as (rw (c .before .before .before .before .before .enum-told .given .1) (sym (replied-is word.Open (o .result) _ _ (o .ensures)))) (c .before .before .put-reply .ensures)
+    steps-as (rw (c .before .before .before .before .before .enum-told .given .1) (sym (replied-is (o .result) _ _ (o .ensures)))) (c .before .before .put-reply .ensures)
 
 same-length-2 : tie.Need-same-length-2
 same-length-2 c = search needs
@@ -74,7 +73,7 @@ returns-2 : tie.Need-returns-2
 unfolding called jobLine
 returns-2 c =
     let o = c .before .before .before .before .offer in
-    steps-as (rw (c .before .before .before .before .before .enum-told2 .given .1) (sym (replied-is word.Yes (o .result) _ _ (o .ensures)))) (c .before .before .put-reply2 .ensures)
+    steps-as (rw (c .before .before .before .before .before .enum-told2 .given .1) (sym (replied-is (o .result) _ _ (o .ensures)))) (c .before .before .put-reply2 .ensures)
 
 same-length-3 : tie.Need-same-length-3
 same-length-3 c = search needs

@@ -4,7 +4,6 @@ use mathlib.Core.Path.{_≡_, refl}
 use Prim.Native.Nat.{_+_, _*_, _≤_}
 use native.Mathlib.Omega.{arith}
 use lib.ListN.{length}
-use Rattle.printing.specs.declared.Word.the-variants as word
 use Rattle.protocol.specs.AnswerLines.{chunksBefore, line-count}
 use Rattle.protocol.specs.CallSteps.{clock-few, clock-steps}
 use Rattle.protocol.proofs.step.clock_step.Statement.{statement}
@@ -37,7 +36,7 @@ put-requires c κs =
     let w : p .result ≤ a .at + chunksBefore (l .result) * 160 = p .ensures .within in
     let k : length (p .last .0) ≡ length (a .out .now) = p .kept .0 in
     let room : p .result + 160 ≤ length (p .last .0) = omega arith in
-    (rw (l .ensures) (line-count word.Clock (t .result .reply .answer)), room)
+    (rw (l .ensures) (line-count (t .result .reply .answer)), room)
 
 same-length : tie.Need-same-length
 same-length c = search needs

@@ -1,7 +1,6 @@
 -- `protocol::step::put_account` meets its contract.
 use borrow.Author.Needs.{needs}
 use mathlib.Core.Path.{ap}
-use Rattle.printing.specs.declared.Word.the-variants as word
 use Rattle.text.specs.Writing.{within-same}
 use Rattle.protocol.specs.Model.{answerText, accountLine}
 use Rattle.protocol.proofs.step.put_account.Statement.{statement}
@@ -18,7 +17,7 @@ same-length c = search needs
 
 returns : tie.Need-returns
 unfolding accountLine
-returns c = within-same (ap (answerText word.Account) (c .before .before .before .account-answer .ensures)) (c .before .before .put-answer .ensures)
+returns c = within-same (ap answerText (c .before .before .before .account-answer .ensures)) (c .before .before .put-answer .ensures)
 
 pub put-account-spec : {M : Type 1} → statement M
 put-account-spec =
