@@ -14,6 +14,7 @@ pub mod Outcome
 pub mod Invariant
 pub mod Lifecycles
 pub mod Demand1
+pub mod Demand2
 pub mod Demand3
 pub mod Listing
 pub mod Cases
