@@ -1,5 +1,5 @@
--- The three demands. What a reader must believe besides the planner's definitions is CallLists and the claim that begins Demand3; the other files
--- show what follows from them.
+-- The three demands. What a reader must believe besides the planner's definitions is CallLists and the claims that begin Demand2 and Demand3; the
+-- other files show what follows from them.
 pub mod CallLists
 pub mod QuestionEleven
 pub mod Offers
