@@ -1,7 +1,7 @@
 -- Demand 2 on one booking: it is the best of all choices, or there is no choice at all; and it is the only one.
 use mathlib.Core.Path.{_≡_, refl, ap, sym, subst, subst₂, _∙_}
 use mathlib.Core.List.{List, [], _∷_, map}
-use mathlib.Core.Logic.{_⊎_, inl, inr}
+use mathlib.Core.Logic.{_⊎_, inl, inr, ⊎-elim, _↔_}
 use mathlib.Core.Bool.{true, cond}
 use Prim.Native.Nat.{ℕ, zero, suc, _+_, _-_, _≤_, _<_}
 use native.Mathlib.Nat.{add-zero}
@@ -20,11 +20,17 @@ use Rattle.shares.specs.Answers.{answered-is}
 use Rattle.keys.specs.declared.Key.{Key}
 use Rattle.booking.specs.declared.Request.{Request}
 use Rattle.booking.specs.declared.Found.{Found}
+use Rattle.booking.specs.declared.Booking.{Booking}
 use Rattle.booking.specs.Model.{startAt, ranked, search, bookingOf, bookedAt, bookOf}
 use Rattle.booking.specs.Search.{keyAt, Enough, IsFirst, IsNone, search-is}
 use Rattle.booking.specs.Best.{freeAt, Known, Choice, Before, BestChoice, chosen, units, Best}
+use Rattle.booking.specs.Only.{only}
 use Rattle.booking.specs.Rank.{IsKey, IsRank, ranked-is}
 use Rattle.booking.specs.NoneEarlier.{sorted-early, no-more, free-by, before-all, first-before, times-grow}
+
+-- no permitted start, no different nodes free at it and no division into whole units end by the deadline
+abbrev pub NoChoice : Request → List ℕ → Type 0
+NoChoice q free = (s : ℕ) (ks xs : List ℕ) → Choice q free s ks xs → ⊥
 
 -- a share list of some units has a first share
 pub some-share : (xs : List ℕ) → 1 ≤ sum xs → 1 ≤ length xs
@@ -57,7 +63,7 @@ module _ (q : Request) (free : List ℕ) (sends : 1 ≤ q .costs .send) (held : 
   choice-some s ks xs h = some-share xs (omega (arith, h .all))
 
   -- Where the search finds no count, there is no choice.
-  no-choice : (f : Found) → IsNone q rank f → (s : ℕ) (ks xs : List ℕ) → Choice q free s ks xs → ⊥
+  no-choice : (f : Found) → IsNone q rank f → NoChoice q free
   no-choice f n s ks xs h =
       let one = choice-some s ks xs h in
       let e = choice-enough s (length xs - 1) ks xs h (omega arith) in
@@ -182,7 +188,7 @@ best-of q free s ks xs b =
 -- **Demand 2 on one booking.** There is none exactly when no permitted start, no different nodes free at it and no division into whole units
 -- end by the deadline; otherwise it is the best of all of these.
 pub book-is : (q : Request) (free : List ℕ) → answers (q .costs) (q .nodes) ≡ true → q .nodes ≤ length free → 1 ≤ q .size
-    → ((bookOf q free ≡ bookingOf 0 [] []) × ((s : ℕ) (ks xs : List ℕ) → Choice q free s ks xs → ⊥)) ⊎ Best q free (bookOf q free)
+    → ((bookOf q free ≡ bookingOf 0 [] []) × NoChoice q free) ⊎ Best q free (bookOf q free)
 unfolding bookOf bookedAt greedy rank s₀ v₀ ks₀ xs₀
 book-is q free e held some = go (search q 0 (ranked (q .nodes) free)) (search-is q (ranked (q .nodes) free))
   where
@@ -190,7 +196,48 @@ book-is q free e held some = go (search q 0 (ranked (q .nodes) free)) (search-is
     sends = answered-is (q .costs) (q .nodes) e .0
 
     go : (f : Found) → IsNone q (ranked (q .nodes) free) f ⊎ ((k : ℕ) × IsFirst q (ranked (q .nodes) free) k f)
-        → ((cond (answers (q .costs) (q .nodes)) (bookedAt q (ranked (q .nodes) free) f) (bookingOf 0 [] []) ≡ bookingOf 0 [] []) × ((s : ℕ) (ks xs : List ℕ) → Choice q free s ks xs → ⊥))
+        → ((cond (answers (q .costs) (q .nodes)) (bookedAt q (ranked (q .nodes) free) f) (bookingOf 0 [] []) ≡ bookingOf 0 [] []) × NoChoice q free)
         ⊎ Best q free (cond (answers (q .costs) (q .nodes)) (bookedAt q (ranked (q .nodes) free) f) (bookingOf 0 [] []))
     go f (inl n) = inl (rw (e, n .none), no-choice q free sends held some f n)
     go f (inr i) = inr (rw (e, i .1 .count, i .1 .start) (best-of q free _ _ _ (best₀ q free sends held some (i .0) f (i .1))))
+
+-- ---- Exactly when
+
+-- what is booked for a request on nodes with these free times
+pub record IsBooking (q : Request) (free : List ℕ) (b : Booking) : Type 0 where
+  -- nothing, exactly when there is no choice
+  pub fails : (b .count ≡ 0) ↔ NoChoice q free
+  -- nodes and shares, exactly when they are the best of all choices
+  pub best : (1 ≤ b .count) ↔ Best q free b
+  -- no other booking is the best of all choices
+  pub unique : (d : Booking) → Best q free d → d ≡ b
+
+-- The best of all choices has a node.
+pub best-some : (q : Request) (free : List ℕ) (b : Booking) → 1 ≤ q .size → Best q free b → 1 ≤ b .count
+unfolding bookingOf
+best-some q free b some x =
+    let k : b .count ≡ length (chosen b) = ap (λ (y : Booking). y .count) (x .blank) in
+    omega (arith, x .best .choice .paired, some-share (units b) (omega (arith, x .best .choice .all)))
+
+-- **Demand 2 on one booking, as equivalences.** There is none exactly when there is no choice; otherwise it is the best of all choices, and the only one.
+pub book-iff : (q : Request) (free : List ℕ) → answers (q .costs) (q .nodes) ≡ true → q .nodes ≤ length free → 1 ≤ q .size → IsBooking q free (bookOf q free)
+unfolding bookingOf
+book-iff q free e held some = ⊎-elim none one (book-is q free e held some)
+  where
+    none : (bookOf q free ≡ bookingOf 0 [] []) × NoChoice q free → IsBooking q free (bookOf q free)
+    none x =
+        let zero′ : bookOf q free .count ≡ 0 = ap (λ (y : Booking). y .count) (x .0) in
+        record {
+          fails = (λ h. x .1, λ h. zero′);
+          best = (λ h. absurd (omega arith), λ b. absurd (x .1 _ _ _ (b .best .choice)));
+          unique = λ d b. absurd (x .1 _ _ _ (b .best .choice));
+        }
+
+    one : Best q free (bookOf q free) → IsBooking q free (bookOf q free)
+    one b =
+        let h₁ : 1 ≤ bookOf q free .count = best-some q free (bookOf q free) some b in
+        record {
+          fails = (λ h. absurd (omega arith), λ n. absurd (n _ _ _ (b .best .choice)));
+          best = (λ h. b, λ h. h₁);
+          unique = λ d p. only q free d (bookOf q free) p b;
+        }

@@ -1,5 +1,5 @@
--- The three demands. What a reader must believe besides the planner's definitions is CallLists and the claim that begins Demand3; the other files
--- show what follows from them.
+-- The three demands. What a reader must believe besides the planner's definitions is CallLists and the claims that begin Demand2 and Demand3; the
+-- other files show what follows from them.
 pub mod CallLists
 pub mod QuestionEleven
 pub mod Offers
@@ -14,6 +14,7 @@ pub mod Outcome
 pub mod Invariant
 pub mod Lifecycles
 pub mod Demand1
+pub mod Demand2
 pub mod Demand3
 pub mod Listing
 pub mod Cases

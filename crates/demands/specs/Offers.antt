@@ -5,16 +5,16 @@ use mathlib.Core.Bool.{Bool, true, false, cond, _&&_}
 use mathlib.Core.Logic.{_⊎_, inl, inr, ⊎-elim}
 use Prim.Native.Nat.{ℕ, suc, _≤_, _<_}
 use native.Mathlib.Omega.{arith}
-use borrow.Author.Tests.{ne-eqb}
+use borrow.Author.Tests.{ne-eqb, le-leb, lt-ltb}
 use lib.Dec.{leb, ltb}
 use lib.ListN.{length}
-use Rattle.limits.specs.Says.{between-is}
+use Rattle.limits.specs.Says.{says-between, between-is}
 use Rattle.walk.specs.BestWalk.{BestAll, Fails, walk-is}
 use Rattle.planner.specs.declared.Farm.{Farm}
 use Rattle.planner.specs.Model.{greatest, between, Between, termsOf, busyOf}
 use Rattle.planner.specs.Passes.{passesOf}
 use Rattle.planner.specs.Calls.{refused, newJob, queueOf, planned, accepts, withPlan, offerAsked, offerSaid, offerFarm}
-use Rattle.planner.specs.CallsSteps.{Offered, walk-ready, deadline-is, place-is}
+use Rattle.planner.specs.CallsSteps.{Offered, asked-all, walk-ready, deadline-is, place-is}
 
 -- An offer that does not pass questions 11, 4, 5, 6 and 7 is refused with the number of the first answered no, and the farm is as it was.
 pub offer-stopped : (f : Farm) (s z d n : ℕ) → offerAsked f s z d ≡ suc n → (offerSaid f s z d ≡ refused (suc n)) × (offerFarm f s z d ≡ f)
@@ -56,8 +56,15 @@ asked-granted f s z d h =
       used = p .1;
     }
 
+-- Where each is answered yes, the offer is asked all of them.
+pub granted-asked : (f : Farm) (s z d : ℕ) → Granted f s z d → offerAsked f s z d ≡ 0
+granted-asked f s z d g =
+    let deadline : (ltb (f .clock) d && leb d greatest) ≡ true = rw (lt-ltb (f .clock) d (g .clock)) (le-leb d greatest (g .deadline)) in
+    let place : (ltb (f .waiting) 128 && ltb (f .used) greatest) ≡ true = rw (lt-ltb (f .waiting) 128 (g .waiting)) (lt-ltb (f .used) greatest (g .used)) in
+    asked-all f s z d (g .passes) (says-between 1 s (f .shows) .follows (g .show)) (says-between 1 z 1_000_000 .follows (g .size)) deadline place
+
 -- What such an offer has the walk start from.
-granted-offered : (f : Farm) (s z d : ℕ) → Granted f s z d → Offered f (newJob f s z d)
+pub granted-offered : (f : Farm) (s z d : ℕ) → Granted f s z d → Offered f (newJob f s z d)
 granted-offered f s z d g = record { passes = g .passes; size = g .size .0; deadline = g .deadline; waiting = g .waiting }
 
 -- **An offer.** Past those questions it is accepted exactly when the walk books every waiting job and the new one, each with the best of all choices

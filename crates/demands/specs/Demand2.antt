@@ -1,0 +1,100 @@
+-- Demand 2, its sentences beside the parts of the claim (`Demand2` below; `demand2` at the end is the theorem):
+--   "An offer whose farm, show, size, deadline and place in the queue pass document 01's questions"   questions
+--   "is accepted exactly when the deadline walk there books every waiting job and the new one;"       accepted, replaces, walked, last
+--   "any other is refused."                                                                           stopped, unbooked
+--   "A job fails there exactly when no permitted start, no nodes free at that start and no division into whole units end
+--    by its deadline."                                                                                jobs (`fails` of `IsBooking`), books
+--   "Each booking has the earliest start, the fewest nodes that any start allows, and the earliest finish on them,"
+--                                                                                                     jobs (`best`, `unique` of `IsBooking`), books
+--   "in the single-round divisible load model of report UNL-2005-0014 counted in whole units."        `finish` (shares/specs/Model.antt)
+-- `IsBooking` is in booking/specs/Booked.antt, over `Choice` and `Best` of Best.antt; `InTurn`, `BestAll` and `Fails` are in walk/specs/BestWalk.antt.
+-- The contract of `Farm::offer` equates what runs with `offerSaid` and `offerFarm`, for all arguments.
+use mathlib.Core.Path.{_≡_, refl, ap, sym, _∙_}
+use mathlib.Core.List.{[], _∷_, _++_, List·Permᴰ}
+use mathlib.Core.Bool.{true, false, false≢true}
+use mathlib.Core.Logic.{⊎-elim, _↔_}
+use Prim.Native.Nat.{ℕ, zero, suc, _≤_, _<_}
+use native.Mathlib.Omega.{arith}
+use lib.ListN.{length}
+use Rattle.lists.specs.Laws.{All, Pairs, all-map}
+use Rattle.booking.specs.Booked.{IsBooking}
+use Rattle.walk.specs.declared.Job.{Job}
+use Rattle.walk.specs.Order.{Precedes}
+use Rattle.walk.specs.WalkSteps.{Ready}
+use Rattle.walk.specs.BestWalk.{InTurn, BestAll, Fails, walk-iff, walk-each, walked-jobs}
+use Rattle.planner.specs.declared.Farm.{Farm}
+use Rattle.planner.specs.Model.{Sized, waitingOf, busyOf, termsOf, deadlineOf, requestOf, step}
+use Rattle.planner.specs.PassesSteps.{passes-within, passes-jobs}
+use Rattle.planner.specs.Calls.{Said, refused, newJob, queueOf, planned, accepts, withPlan, offerAsked, offerSaid, offerFarm}
+use Rattle.planner.specs.CallsSteps.{walk-ready}
+use Rattle.demands.specs.Offers.{Granted, offer-stopped, asked-granted, granted-asked, granted-offered, offer-is}
+use Rattle.demands.specs.OfferPasses.{waiting-planned}
+
+-- ---- The claim
+
+-- demand 2 of an offer to the farm f: of show s, z units, by the deadline d
+pub record Demand2 (f : Farm) (s z d : ℕ) : Type 0 where
+  -- Questions 11, 4, 5, 6 and 7 are passed exactly when the farm, the show, the size, the deadline and the place in the queue are as they ask.
+  pub questions : (offerAsked f s z d ≡ 0) ↔ Granted f s z d
+  -- An offer is accepted exactly when it passes them and the walk books every waiting job and the new one.
+  pub accepted : (offerSaid f s z d .number ≡ 0) ↔ ((offerAsked f s z d ≡ 0) × (accepts f s z d ≡ true))
+  -- Then the plan of that walk replaces the old one, and nothing else waits in the next farm.
+  pub replaces : offerSaid f s z d .number ≡ 0 → (offerFarm f s z d ≡ withPlan f (planned f s z d)) × (waitingOf (offerFarm f s z d) ≡ planned f s z d)
+  -- Any other is refused, with the number of the first question answered no or with 8, and the farm is as it was.
+  pub stopped : (n : ℕ) → offerAsked f s z d ≡ suc n → (offerSaid f s z d ≡ refused (suc n)) × (offerFarm f s z d ≡ f)
+  pub unbooked : offerAsked f s z d ≡ 0 → accepts f s z d ≡ false → (offerSaid f s z d ≡ refused 8) × (offerFarm f s z d ≡ f)
+  -- What is walked is the waiting jobs and the new one, each once, by deadline, equal deadlines by number,
+  pub walked : List·Permᴰ (waitingOf f ++ newJob f s z d ∷ []) (queueOf f s z d) × Pairs (Precedes deadlineOf) (queueOf f s z d)
+  -- of which the new one has the largest.
+  pub last : offerAsked f s z d ≡ 0 → All (λ (j : Job). j .number < newJob f s z d .number) (waitingOf f)
+  -- The walk books all exactly when each job has the best of all choices behind those before it, and not all exactly when some job has no choice at
+  -- all behind the best of those before it.
+  pub books : offerAsked f s z d ≡ 0
+      → ((accepts f s z d ≡ true) ↔ BestAll (termsOf f) (busyOf f) (queueOf f s z d)) × ((accepts f s z d ≡ false) ↔ Fails (termsOf f) (busyOf f) (queueOf f s z d))
+  -- Each job of the walk, b the free times that those before it have left, has no booking exactly when it has no choice; otherwise it has the best
+  -- of all choices, and no other booking is that.
+  pub jobs : offerAsked f s z d ≡ 0 → InTurn (λ w b j. IsBooking (requestOf w b j) (b .free) (step w b j .booking)) (termsOf f) (busyOf f) (queueOf f s z d)
+
+-- ---- The theorem
+
+module _ (f : Farm) (s z d : ℕ) where
+  -- An offer that is accepted has passed the questions before the walk.
+  passed : offerSaid f s z d .number ≡ 0 → offerAsked f s z d ≡ 0
+  passed h = go (offerAsked f s z d) refl
+    where
+      go : (n : ℕ) → offerAsked f s z d ≡ n → offerAsked f s z d ≡ 0
+      go zero q = q
+      go (suc n) q = absurd (let r = ap (λ (x : Said). x .number) (offer-stopped f s z d n q .0) in omega arith)
+
+  -- What the walk of an offer past them starts from.
+  ready : offerAsked f s z d ≡ 0 → Ready (termsOf f) (queueOf f s z d)
+  ready e = walk-ready f (newJob f s z d) (granted-offered f s z d (asked-granted f s z d e))
+
+  module _ (sized : Sized f) where
+    enough : offerAsked f s z d ≡ 0 → f .nodes ≤ length (f .free)
+    enough e = omega (arith, sized .free, passes-within f (asked-granted f s z d e .passes) .nodes .1)
+
+    -- The walk of an offer that is accepted books all, and the next farm has its plan.
+    accepted-plan : offerSaid f s z d .number ≡ 0 → (accepts f s z d ≡ true) × (offerFarm f s z d ≡ withPlan f (planned f s z d))
+    accepted-plan h =
+        ⊎-elim (λ x. (x .0, x .3)) (λ x. absurd (let r = ap (λ (y : Said). y .number) (x .2) in omega arith))
+        (offer-is f s z d (enough (passed h)) (passed h))
+
+-- **Demand 2.** It holds of every offer to every farm.
+pub demand2 : (f : Farm) (s z d : ℕ) → Sized f → Demand2 f s z d
+demand2 f s z d sized = record {
+  questions = (asked-granted f s z d, granted-asked f s z d);
+  accepted = (
+    λ h. (passed f s z d h, accepted-plan f s z d sized h .0),
+    λ h. ⊎-elim (λ x. x .2) (λ x. absurd (false≢true (sym (x .0) ∙ h .1))) (offer-is f s z d (enough f s z d sized (h .0)) (h .0)),
+  );
+  replaces = λ h.
+      let t = accepted-plan f s z d sized h in
+      (t .1, ap waitingOf (t .1) ∙ waiting-planned f s z d sized (asked-granted f s z d (passed f s z d h)) (t .0));
+  stopped = offer-stopped f s z d;
+  unbooked = λ e n. ⊎-elim (λ x. absurd (false≢true (sym n ∙ x .0))) (λ x. (x .2, x .3)) (offer-is f s z d (enough f s z d sized e) e);
+  walked = walked-jobs (waitingOf f ++ newJob f s z d ∷ []);
+  last = λ e. all-map (λ j h. omega (arith, h .0 .number .1)) (waitingOf f) (passes-jobs f (asked-granted f s z d e .passes));
+  books = λ e. walk-iff (termsOf f) (busyOf f) (queueOf f s z d) (ready f s z d e) (enough f s z d sized e);
+  jobs = λ e. walk-each (termsOf f) (busyOf f) (queueOf f s z d) (ready f s z d e) (enough f s z d sized e);
+}
