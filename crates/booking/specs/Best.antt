@@ -2,7 +2,7 @@
 -- units that end by the deadline; a booking is the best of all choices.
 use mathlib.Core.Path.{_≡_}
 use mathlib.Core.List.{List, List·Memᴰ}
-use mathlib.Core.Logic.{_⊎_}
+use mathlib.Core.Logic.{_⊎_, _↔_}
 use Prim.Native.Nat.{ℕ, _-_, _≤_, _<_}
 use lib.ListN.{length, getD, take}
 use Rattle.lists.specs.Laws.{All, Pairs, Differ}
@@ -30,6 +30,10 @@ pub record Choice (q : Request) (free : List ℕ) (s : ℕ) (ks xs : List ℕ) :
   pub each : Positive xs
   pub all : sum xs ≡ q .size
   pub ends : finish (q .costs) s xs ≤ q .deadline
+
+-- no permitted start, no different nodes free at it and no division into whole units end by the deadline
+abbrev pub NoChoice : Request → List ℕ → Type 0
+NoChoice q free = (s : ℕ) (ks xs : List ℕ) → Choice q free s ks xs → ⊥
 
 -- node a stands before node b: it has the smaller free time, or the same and the smaller number
 abbrev pub Before : List ℕ → ℕ → ℕ → Type 0
@@ -62,3 +66,12 @@ units b = take (b .count) (b .shares)
 pub record Best (q : Request) (free : List ℕ) (b : Booking) : Type 0 where
   pub best : BestChoice q free (b .start) (chosen b) (units b)
   pub blank : b ≡ bookingOf (b .start) (chosen b) (units b)
+
+-- what is booked for a request on nodes with these free times
+pub record IsBooking (q : Request) (free : List ℕ) (b : Booking) : Type 0 where
+  -- nothing, exactly when there is no choice
+  pub fails : (b .count ≡ 0) ↔ NoChoice q free
+  -- nodes and shares, exactly when they are the best of all choices
+  pub best : (1 ≤ b .count) ↔ Best q free b
+  -- no other booking is the best of all choices
+  pub unique : (d : Booking) → Best q free d → d ≡ b

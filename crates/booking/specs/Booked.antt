@@ -1,7 +1,7 @@
 -- Demand 2 on one booking: it is the best of all choices, or there is no choice at all; and it is the only one.
 use mathlib.Core.Path.{_≡_, refl, ap, sym, subst, subst₂, _∙_}
 use mathlib.Core.List.{List, [], _∷_, map}
-use mathlib.Core.Logic.{_⊎_, inl, inr, ⊎-elim, _↔_}
+use mathlib.Core.Logic.{_⊎_, inl, inr, ⊎-elim}
 use mathlib.Core.Bool.{true, cond}
 use Prim.Native.Nat.{ℕ, zero, suc, _+_, _-_, _≤_, _<_}
 use native.Mathlib.Nat.{add-zero}
@@ -23,14 +23,10 @@ use Rattle.booking.specs.declared.Found.{Found}
 use Rattle.booking.specs.declared.Booking.{Booking}
 use Rattle.booking.specs.Model.{startAt, ranked, search, bookingOf, bookedAt, bookOf}
 use Rattle.booking.specs.Search.{keyAt, Enough, IsFirst, IsNone, search-is}
-use Rattle.booking.specs.Best.{freeAt, Known, Choice, Before, BestChoice, chosen, units, Best}
+use Rattle.booking.specs.Best.{freeAt, Known, Choice, Before, BestChoice, chosen, units, Best, NoChoice, IsBooking}
 use Rattle.booking.specs.Only.{only}
 use Rattle.booking.specs.Rank.{IsKey, IsRank, ranked-is}
 use Rattle.booking.specs.NoneEarlier.{sorted-early, no-more, free-by, before-all, first-before, times-grow}
-
--- no permitted start, no different nodes free at it and no division into whole units end by the deadline
-abbrev pub NoChoice : Request → List ℕ → Type 0
-NoChoice q free = (s : ℕ) (ks xs : List ℕ) → Choice q free s ks xs → ⊥
 
 -- a share list of some units has a first share
 pub some-share : (xs : List ℕ) → 1 ≤ sum xs → 1 ≤ length xs
@@ -202,15 +198,6 @@ book-is q free e held some = go (search q 0 (ranked (q .nodes) free)) (search-is
     go f (inr i) = inr (rw (e, i .1 .count, i .1 .start) (best-of q free _ _ _ (best₀ q free sends held some (i .0) f (i .1))))
 
 -- ---- Exactly when
-
--- what is booked for a request on nodes with these free times
-pub record IsBooking (q : Request) (free : List ℕ) (b : Booking) : Type 0 where
-  -- nothing, exactly when there is no choice
-  pub fails : (b .count ≡ 0) ↔ NoChoice q free
-  -- nodes and shares, exactly when they are the best of all choices
-  pub best : (1 ≤ b .count) ↔ Best q free b
-  -- no other booking is the best of all choices
-  pub unique : (d : Booking) → Best q free d → d ≡ b
 
 -- The best of all choices has a node.
 pub best-some : (q : Request) (free : List ℕ) (b : Booking) → 1 ≤ q .size → Best q free b → 1 ≤ b .count

@@ -4,7 +4,7 @@ pub mod Search
 pub mod Best
 pub mod Rank
 pub mod NoneEarlier
-pub mod Booked
 pub mod Only
+pub mod Booked
 pub mod Steps
 pub mod Reranked

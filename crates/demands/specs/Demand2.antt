@@ -17,7 +17,7 @@ use Prim.Native.Nat.{ℕ, zero, suc, _≤_, _<_}
 use native.Mathlib.Omega.{arith}
 use lib.ListN.{length}
 use Rattle.lists.specs.Laws.{All, Pairs, all-map}
-use Rattle.booking.specs.Booked.{IsBooking}
+use Rattle.booking.specs.Best.{IsBooking}
 use Rattle.walk.specs.declared.Job.{Job}
 use Rattle.walk.specs.Order.{Precedes}
 use Rattle.walk.specs.WalkSteps.{Ready}
