@@ -7,7 +7,7 @@
 --   "Each booking has the earliest start, the fewest nodes that any start allows, and the earliest finish on them,"
 --                                                                                                     jobs (`best`, `unique` of `IsBooking`), books
 --   "in the single-round divisible load model of report UNL-2005-0014 counted in whole units."        `finish` (shares/specs/Model.antt)
--- `IsBooking` is in booking/specs/Booked.antt, over `Choice` and `Best` of Best.antt; `InTurn`, `BestAll` and `Fails` are in walk/specs/BestWalk.antt.
+-- `IsBooking` is in booking/specs/Best.antt, over `Choice` and `Best`; `InTurn`, `BestAll` and `Fails` are in walk/specs/BestWalk.antt.
 -- The contract of `Farm::offer` equates what runs with `offerSaid` and `offerFarm`, for all arguments.
 use mathlib.Core.Path.{_≡_, refl, ap, sym, _∙_}
 use mathlib.Core.List.{[], _∷_, _++_, List·Permᴰ}

@@ -13,9 +13,8 @@ use lib.ListN.{length}
 use Rattle.lists.specs.Laws.{Pairs}
 use Rattle.shares.specs.Model.{answers}
 use Rattle.booking.specs.Model.{bookingOf}
-use Rattle.booking.specs.Best.{Best}
+use Rattle.booking.specs.Best.{NoChoice, Best, IsBooking}
 use Rattle.booking.specs.Booked.{best-some, book-is, book-iff}
-use Rattle.booking.specs.Best.{NoChoice, IsBooking}
 use Rattle.walk.specs.declared.Job.{Job}
 use Rattle.walk.specs.declared.Terms.{Terms}
 use Rattle.walk.specs.declared.Busy.{Busy}
