@@ -1,6 +1,7 @@
 // Days that come through a file descriptor: read in blocks, answered by the crate protocol, and the answers written. A failed read or
-// write ends a day quietly.
+// write ends a day, and says so in one line on standard error.
 ghost use Rattle.feeding.specs.Fed.{Answers};
+use libc::STDERR_FILENO;
 use protocol::Session;
 
 // A day so far, and whether its answers could be written.
@@ -41,10 +42,20 @@ fn answer_all(output: i32, session: Session, block: &[u8], out: &mut [u8]) -> Se
     }
 }
 
+fn tell_unread() {
+    io::write_all(STDERR_FILENO, b"the input could not be read\n");
+}
+
+fn tell_unwritten() {
+    io::write_all(STDERR_FILENO, b"the answers could not be written\n");
+}
+
 // The end of the input: a last line may lack its newline.
 fn end(output: i32, session: Session, out: &mut [u8]) {
     let written = protocol::end_of_input(session, out);
-    io::write_all(output, &out[0..written]);
+    if !io::write_all(output, &out[0..written]) {
+        tell_unwritten();
+    }
 }
 
 // A day from `input` to `output`. One read a turn, so that lines that come one by one are answered as they come. The turns are counted
@@ -63,10 +74,12 @@ pub fn answer_stream(input: i32, output: i32) {
         }
         let count = io::count(got, &block);
         if count == 0 {
+            tell_unread();
             return;
         }
         let sent = answer_all(output, day, &block[0..count], &mut out);
         if !sent.ok {
+            tell_unwritten();
             return;
         }
         day = sent.session;

@@ -1,7 +1,7 @@
 -- `feeding::answer_stream` meets its contract.
-use borrow.Author.Needs.{needs}
 use mathlib.Core.Path.{_≡_}
 use lib.ListN.{length}
+use borrow.Author.Needs.{needs}
 use Rattle.feeding.proofs.answer_stream.Statement.{statement}
 use Rattle.feeding.proofs.answer_stream.Tie as tie
 
@@ -44,6 +44,9 @@ slice-aggregate-count c = search needs
 count-requires : tie.Need-count-requires Inv-loop μ-loop
 count-requires c κs = search needs
 
+tell-unread-requires : tie.Need-tell-unread-requires Inv-loop μ-loop
+tell-unread-requires c κs = search needs
+
 returns-2 : tie.Need-returns-2 Inv-loop μ-loop
 returns-2 c = search needs
 
@@ -61,6 +64,9 @@ slice-aggregate-answer-all c = search needs
 
 answer-all-requires : tie.Need-answer-all-requires Inv-loop μ-loop
 answer-all-requires c κs = search needs
+
+tell-unwritten-requires : tie.Need-tell-unwritten-requires Inv-loop μ-loop
+tell-unwritten-requires c κs = search needs
 
 returns-3 : tie.Need-returns-3 Inv-loop μ-loop
 returns-3 c = search needs
@@ -91,12 +97,14 @@ answer-stream-spec =
     returns
     slice-aggregate-count
     count-requires
+    tell-unread-requires
     returns-2
     sub-answer-all
     part-answer-all-start
     part-answer-all-end
     slice-aggregate-answer-all
     answer-all-requires
+    tell-unwritten-requires
     returns-3
     loop-less
     loop-again
