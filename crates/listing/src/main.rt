@@ -49,28 +49,16 @@ fn put_answer(answer: Answer) {
     }
 }
 
-fn put_chunk(c: Chunk) {
-    put(
-        b"chunk",
-        &[c.job, c.show, c.node, c.units, c.start, c.sent, c.finish],
-    );
-}
-
-// The lines of the first `count` records.
-fn put_chunks(chunks: [Chunk; 1024], count: u64) {
+// The records that were written; one that was not has job 0.
+fn put_chunks(chunks: [Chunk; 1024]) {
     for i in 0..1024 {
-        if (i as u64) < count {
-            put_chunk(chunks[i]);
+        let c = chunks[i];
+        if c.job > 0 {
+            put(
+                b"chunk",
+                &[c.job, c.show, c.node, c.units, c.start, c.sent, c.finish],
+            );
         }
-    }
-}
-
-// How many records of the timetable are written.
-fn written(answer: Answer) -> u64 {
-    match answer {
-        Answer::Clock { time: _, lines } => lines,
-        Answer::Shown { lines } => lines,
-        _ => 0,
     }
 }
 
@@ -81,10 +69,9 @@ fn put_reply(reply: Reply) -> Farm {
 }
 
 fn put_table(table: Timetable) -> Farm {
-    let reply = table.reply;
     let chunks = table.lines;
-    let answer = reply.answer;
-    put_chunks(chunks, written(answer));
+    let reply = table.reply;
+    put_chunks(chunks);
     put_reply(reply)
 }
 

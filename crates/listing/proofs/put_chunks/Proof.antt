@@ -1,28 +1,35 @@
+-- `listing::put_chunks` is safe and ends.
 use Prim.Native.Nat.{_-_, _≤_}
 use borrow.Author.Needs.{needs}
 use Rattle.listing.proofs.put_chunks.Statement.{statement}
 use Rattle.listing.proofs.put_chunks.Tie as tie
 use Rattle.listing.proofs.put_chunks.Reads as reads
 use Rattle.listing.proofs.put_chunks.Lts as lts
-use Rattle.listing.proofs.put_chunk.Reads as put-chunk-reads
+use Rattle.listing.proofs.put.Reads as put-reads
 
 abbrev Inv-loop : tie.InvT-loop
-Inv-loop count chunks i₀ i = i ≤ 1024
+Inv-loop chunks i₀ t5 i = i ≤ 1024
 
 abbrev μ-loop : tie.MeasureT-loop
-μ-loop count chunks i₀ i = 1024 - i
+μ-loop chunks i₀ t5 i = 1024 - i
 
 loop-holds : tie.Need-loop-holds Inv-loop μ-loop
 loop-holds c = search needs
 
-mul-put-chunk : tie.Need-mul-put-chunk Inv-loop μ-loop
-mul-put-chunk c = search needs
+mul-c : tie.Need-mul-c Inv-loop μ-loop
+mul-c c = search needs
 
-array-copy-out-put-chunk : tie.Need-array-copy-out-put-chunk Inv-loop μ-loop
-array-copy-out-put-chunk c = search needs
+array-copy-out-c : tie.Need-array-copy-out-c Inv-loop μ-loop
+array-copy-out-c c = search needs
 
-put-chunk-requires : tie.Need-put-chunk-requires Inv-loop μ-loop
-put-chunk-requires c κs = search needs
+slice-aggregate-put : tie.Need-slice-aggregate-put Inv-loop μ-loop
+slice-aggregate-put c = search needs
+
+slice-aggregate-put-2 : tie.Need-slice-aggregate-put-2 Inv-loop μ-loop
+slice-aggregate-put-2 c = search needs
+
+put-requires : tie.Need-put-requires Inv-loop μ-loop
+put-requires c κs = search needs
 
 add-i : tie.Need-add-i Inv-loop μ-loop
 add-i c = search needs
@@ -43,9 +50,11 @@ put-chunks-spec =
     Inv-loop
     μ-loop
     loop-holds
-    mul-put-chunk
-    array-copy-out-put-chunk
-    put-chunk-requires
+    mul-c
+    array-copy-out-c
+    slice-aggregate-put
+    slice-aggregate-put-2
+    put-requires
     add-i
     loop-less
     loop-again
