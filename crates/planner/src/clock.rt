@@ -203,4 +203,13 @@ impl Farm {
         let reply = self.clock(time, &mut out);
         with_lines(reply, out)
     }
+
+    // Showing, lent 1,024 records by value.
+    pub fn show_by_value(self, lines: [Chunk; 1024]) -> Timetable
+        ensures { λ r. ⌜ Replies (r .reply) (shownSaid self 1024) self × (r .lines ≡ shownMemory self lines) ⌝ }
+    {
+        let mut out = lines;
+        let reply = self.show(&mut out);
+        with_lines(reply, out)
+    }
 }

@@ -1,41 +1,26 @@
 -- `Farm::clock_by_value` meets its contract: an array of records in a local is lent to `clock` as a slice.
-use mathlib.Core.Path.{_≡_, refl, ap, sym, subst, _∙_}
+use mathlib.Core.Path.{_≡_, refl, ap, sym}
 use Prim.Native.Nat.{ℕ}
 use mathlib.Core.List.{[], _∷_}
 use lib.ListN.{length}
-use lib.Dec.{lit<}
 use mir.Val.{vint}
-use mir.Syntax.{Ty, w64, tyArray, tyRef, erased, mut}
-use denote.Array.{Array}
-use denote.Memory.{pointee}
+use mir.Syntax.{w64}
 use denote.Slice.{sliceTy}
-use borrow.Table.Reads.{as-is}
-use borrow.Table.Own.{told-none}
-use borrow.Rule.Array.Rows.{arrF, arr-owed}
-use borrow.Rule.Array.Borrow.{t-arr-borrow, g-back-arr}
-use borrow.Rule.LocalCopy.{t-val-copy}
-use borrow.Rule.Scalar.{oBig}
-use borrow.Rule.Slice.Mut.{mslice, msleft, reads-mslice}
-use borrow.Rule.Slice.Relend.{asMut, msptr, t-sl-aggregate}
 use borrow.Kind.Num.{pNum, vAt}
 use borrow.Fn.Kinds.{Out}
 use borrow.Fn.World.{World}
-use Rattle.timetable.proofs.Chunks as slice
+use Rattle.timetable.proofs.Chunks.{again}
 use Rattle.timetable.proofs.Structs as T
 use Rattle.timetable.proofs.Value.{type, param, result, copied, dropped}
-use Rattle.timetable.proofs.Rows.{params, array, rows, rows-copied, rows-made, rows-dropped}
+use Rattle.timetable.proofs.Rows.{params}
 use Rattle.timetable.proofs.Lent.{_▸_, word, u64, free, spent, num, Knows, step, silent, call, gone, begin, over, forget, end, Code, given, tables, Derived, AskedFree, proves-free, known-free}
-use Rattle.planner.specs.declared.Timetable.{Timetable}
 use Rattle.planner.specs.Calls.{Replies}
 use Rattle.planner.specs.Clock.{moveSaid, moveFarm, moveMemory}
 use Rattle.planner.proofs.Structs as S
+use Rattle.planner.proofs.ByValue as lines
 use Rattle.planner.proofs.ClockMove as move
 use Rattle.planner.proofs.Farm.clock.Symbol as clock
 use Rattle.planner.proofs.Farm.clock.Met as clock-thm
-use Rattle.planner.proofs.clock.with_lines.Kinds as with-kinds
-use Rattle.planner.proofs.clock.with_lines.Reads as with-reads
-use Rattle.planner.proofs.clock.with_lines.Symbol as with-lines
-use Rattle.planner.proofs.clock.with_lines.Met as with-thm
 use Rattle.planner.proofs.Farm.clock_by_value.Key.{name}
 use Rattle.planner.proofs.Farm.clock_by_value.Statement.{statement}
 use Rattle.planner.proofs.Farm.clock_by_value.Code as code
@@ -53,38 +38,28 @@ c = record {
 abbrev Post : Out 0 (c .ps) (c .r)
 Post κs a x e = Replies (x .reply) (moveSaid (a .0) (a .1 .0) 1024) (moveFarm (a .0) (a .1 .0) 1024) × (x .lines ≡ moveMemory (a .0) (a .1 .0) (a .1 .1 .0))
 
--- the type of a reference to the array
-abbrev ref : Ty
-ref = tyRef erased mut (tyArray (pointee (slice.chunk .written)) 1024)
-
 abbrev derived : (w : World) → Derived w c
 derived w κs qs bs =
     let W = given w in
-    let 𝓤 = w .𝓤 in
-    let H = w .H in
-    let A = w .𝓖 .A in
-    let 𝓣 = tables w code.env in
     let to-clock : Knows W (tables w code.env) 1 move.ps move.r (λ κs a. Unit {0}) move.Post clock.name =
-    record { known = known-free 1 move.ps move.r move.Post w code.env clock.name clock.routine code.calls-planner·Farm·clock (clock-thm.met (w .𝓤) (w .H) (w .𝓜) (w .𝓖) (w .𝓡)) } in
-    let to-with : Knows W (tables w code.env) 0 with-kinds.ps with-kinds.r with-reads.Asked with-reads.Learnt with-lines.name =
-    record { known = with-reads.known w code.env with-lines.name with-lines.routine code.calls-planner·clock·with-lines (with-thm.met (w .𝓤) (w .H) (w .𝓜) (w .𝓖) (w .𝓡)) } in (
+    record { known = known-free 1 move.ps move.r move.Post w code.env clock.name clock.routine code.calls-planner·Farm·clock (clock-thm.met (w .𝓤) (w .H) (w .𝓜) (w .𝓖) (w .𝓡)) } in (
       _,
       -- out = lines
-      step W (t-val-copy 𝓤 H A W _ 𝓣 (λ ρ. Unit) _ 3 4 (Array slice.chunk 1024) (array T.chunk 1024) (array T.chunk 1024) (rows T.chunk 1024) (rows T.chunk 1024) (λ x. x) (λ x. x) (λ x. x) refl (told-none 𝓤 H A _) (rows-copied W T.chunk 1024) (free W (array T.chunk 1024)) (rows-made W T.chunk 1024) refl refl) ▸
+      step W (lines.move W 3 4 (λ x. x) (λ x. x) (lines.copied W) (free W lines.records) refl refl) ▸
           -- reply = self.clock(time, &mut out)
           begin W 0 (tt, (tt, (tt, (tt, (tt, (tt, (tt, (tt, (tt, tt))))))))) ▸
-          step W (t-arr-borrow 𝓤 H A W _ 𝓣 slice.chunk _ 4 6 1024 0 ref (λ x. x) (as-is 𝓤 H A (arrF slice.chunk 1024 0)) (free W ref) refl (λ b o. tt) (lit< tt, lit< tt)) ▸
-          step W (t-sl-aggregate 𝓤 H A W _ slice.chunk 𝓣 (asMut slice.chunk) _ 6 7 0 ref slice.again (λ x. x) (oBig w64 1024) (as-is 𝓤 H A (msptr slice.chunk ref 0)) (free W (sliceTy slice.again)) (record { lower = record { fits = lit< tt } }) refl refl (λ b o k. tt)) ▸
-          call W to-clock 5 (0 ∷ []) (record { pos = 1; st = []; d = 0; at = λ x. x }, (vAt 2 (λ x. x), (record { pos = 7; ty = slice.again; ref = λ x. x }, tt)))
-          ((copied W S.farm, refl), ((num W, refl), (as-is 𝓤 H A (mslice slice.chunk slice.again 0), reads-mslice 𝓤 H A W slice.chunk slice.again 0, refl, tt))) (free W (type S.reply)) (tt, tt) refl ▸
+          step W (lines.lend W 4 6 (λ x. x) (lines.whole W) (free W lines.ref) refl) ▸
+          step W (lines.pair W 6 7 (λ x. x) (lines.pointer W) (free W (sliceTy again)) refl refl) ▸
+          call W to-clock 5 (0 ∷ []) (record { pos = 1; st = []; d = 0; at = λ x. x }, (vAt 2 (λ x. x), (record { pos = 7; ty = again; ref = λ x. x }, tt)))
+          ((copied W S.farm, refl), ((num W, refl), (lines.lent W .0, lines.lent W .1, refl, tt))) (free W (type S.reply)) (tt, tt) refl ▸
           over W 0 refl ▸
-          silent W (g-back-arr 𝓤 H A W _ slice.chunk _ 7 4 0 1024 slice.again (λ x. x) (λ x. x) (as-is 𝓤 H A (msleft slice.chunk slice.again)) (as-is 𝓤 H A (arr-owed slice.chunk 1024 0)) refl) ▸
+          silent W (lines.back W 7 4 (λ x. x) (λ x. x) (lines.left W) (lines.owed W) refl) ▸
           forget W 0 refl ▸
           -- return with_lines(reply, out)
-          step W (t-val-copy 𝓤 H A W _ 𝓣 (λ ρ. Unit) _ 4 8 (Array slice.chunk 1024) (array T.chunk 1024) (array T.chunk 1024) (rows T.chunk 1024) (rows T.chunk 1024) (λ x. x) (λ x. x) (λ x. x) refl (told-none 𝓤 H A _) (rows-copied W T.chunk 1024) (free W (array T.chunk 1024)) (rows-made W T.chunk 1024) refl refl) ▸
-          call W to-with 0 [] (record { pos = 5; st = []; d = 0; at = λ x. x }, (record { pos = 8; st = []; d = 0; at = λ x. x }, tt)) ((copied W S.reply, refl), ((rows-copied W T.chunk 1024, refl), tt)) (free W (type S.timetable)) tt refl ▸
-          gone W 1 (type S.farm) (dropped W S.farm) ▸ gone W 2 word (spent W u64) ▸ gone W 3 (array T.chunk 1024) (rows-dropped W T.chunk 1024) ▸ gone W 4 (array T.chunk 1024) (rows-dropped W T.chunk 1024) ▸
-          gone W 5 (type S.reply) (dropped W S.reply) ▸ gone W 8 (array T.chunk 1024) (rows-dropped W T.chunk 1024) ▸ end W,
+          step W (lines.move W 4 8 (λ x. x) (λ x. x) (lines.copied W) (free W lines.records) refl refl) ▸
+          call W (lines.with-lines w code.env code.calls-planner·clock·with-lines) 0 [] (record { pos = 5; st = []; d = 0; at = λ x. x }, (record { pos = 8; st = []; d = 0; at = λ x. x }, tt)) ((copied W S.reply, refl), ((lines.copied W, refl), tt)) (free W (type S.timetable)) tt refl ▸
+          gone W 1 (type S.farm) (dropped W S.farm) ▸ gone W 2 word (spent W u64) ▸ gone W 3 lines.records (lines.dropped W) ▸ gone W 4 lines.records (lines.dropped W) ▸
+          gone W 5 (type S.reply) (dropped W S.reply) ▸ gone W 8 lines.records (lines.dropped W) ▸ end W,
     )
 
 asked-here : (w : World) → AskedFree w c Post (derived w)
@@ -100,11 +75,7 @@ asked-here w κs qs a good _ bs =
             λ _. tt,
             λ m. (
               (tt, (tt, (tt, tt))),
-              (
-                subst (λ (x : Timetable). Replies (x .reply) (moveSaid (a .0) (a .1 .0) 1024) (moveFarm (a .0) (a .1 .0) 1024)) (sym (m .5))
-                    (subst (λ (k : ℕ). Replies (t .1) (moveSaid (a .0) (a .1 .0) k) (moveFarm (a .0) (a .1 .0) k)) full (t .5 .0)),
-                ap (λ (x : Timetable). x .lines) (m .5) ∙ t .5 .1,
-              ),
+              lines.handed (λ k y. Replies y (moveSaid (a .0) (a .1 .0) k) (moveFarm (a .0) (a .1 .0) k)) full (t .5 .0) (t .5 .1) (m .5),
             ),
           ),
         ),

@@ -1,7 +1,7 @@
 -- `Farm::show` meets its contract: a derivation in the borrow checker's logic, and what it asks.
-use mathlib.Core.Path.{_≡_, refl, ap, sym, _∙_, subst}
+use mathlib.Core.Path.{refl, ap, sym, _∙_, subst}
 use Prim.Native.Nat.{ℕ}
-use mathlib.Core.List.{[], _∷_, List}
+use mathlib.Core.List.{[], _∷_}
 use lib.ListN.{length}
 use mir.Syntax.{tyUnit, field}
 use denote.Ref.{now}
@@ -11,12 +11,10 @@ use borrow.Rule.Slice.Shared.{lenV}
 use borrow.Struct.Reads.{reads-field}
 use borrow.Kind.Num.{vAt, vFld}
 use borrow.Kind.Unit.{rUnit}
-use borrow.Kind.MutSlice.{pMutS}
-use borrow.Fn.Kinds.{PK, RK, Out}
 use borrow.Fn.World.{World}
 use Rattle.timetable.proofs.Chunks as slice
 use Rattle.timetable.proofs.Structs as T
-use Rattle.timetable.proofs.Value.{type, param, result, copied, dropped}
+use Rattle.timetable.proofs.Value.{type, copied, dropped}
 use Rattle.timetable.proofs.Rows.{array, rows-copied, rows-dropped}
 use Rattle.timetable.proofs.Lent.{_▸_, word, u64, oFld, free, spent, num, Knows, step, silent, use-as, call, gone, begin, over, forget, end, Code, given, tables, Derived, AskedFree, proves-free, known}
 use Rattle.timetable.proofs.WriteLines as lines
@@ -27,6 +25,7 @@ use Rattle.planner.specs.declared.Reply.{Reply}
 use Rattle.planner.specs.Clock.{shownSaid, shownMemory, shownLines}
 use Rattle.planner.specs.ClockSteps.{due-asks, due-written, show-memory}
 use Rattle.planner.proofs.Structs as S
+use Rattle.planner.proofs.TableShown.{ps, r, Post}
 use Rattle.planner.proofs.clock.showing.Kinds as showing-kinds
 use Rattle.planner.proofs.clock.showing.Reads as showing-reads
 use Rattle.planner.proofs.clock.showing.Symbol as showing
@@ -46,17 +45,6 @@ use Rattle.planner.proofs.clock.reply_of.Met as reply-thm
 use Rattle.planner.proofs.Farm.show.Key.{name}
 use Rattle.planner.proofs.Farm.show.Statement.{statement}
 use Rattle.planner.proofs.Farm.show.Code as code
-
-abbrev ps : List (PK 1)
-ps = param S.farm ∷ pMutS slice.chunk 0 tt ∷ []
-
-abbrev r : RK 1
-r = result S.reply
-
-abbrev Post : Out 1 ps r
-Post κs a x e =
-    let out = a .1 .0 in
-    Replies x (shownSaid (a .0) (length (now out))) (a .0) × (now (e .1 .0) ≡ shownMemory (a .0) (now out))
 
 abbrev c : Code
 c = record { n = 1; m = 1; fn = code.function; env = code.env; ps = ps; r = r }
