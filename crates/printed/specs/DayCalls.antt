@@ -1,17 +1,16 @@
 -- What a day prints is the text of the calls that its readable lines are: the farm after it is the farm that those calls leave, and its `chunk` lines are
 -- the chunks that they issue. So demand 3, which is about lists of calls, holds of what the program prints. The definitions come first.
-use mathlib.Core.Path.{_≡_, refl, ap, sym, subst, _∙_}
-use mathlib.Core.List.{List, [], _∷_, _++_, map, map-map, append-nil, append-assoc}
+use mathlib.Core.Path.{_≡_, refl, ap, sym, _∙_}
+use mathlib.Core.List.{List, [], _∷_, _++_, map, append-nil, append-assoc}
 use mathlib.Core.Bool.{Bool, true, false, cond, not}
-use Prim.Native.Nat.{ℕ, _+_, _-_}
+use Prim.Native.Nat.{ℕ}
 use lib.Dec.{leb, eqb}
-use lib.ListN.{length, getD, take, drop, replicate, length-replicate}
+use lib.ListN.{length, getD, drop, replicate, length-replicate}
 use lib.Seq.{take-at}
 use Rattle.lists.specs.Laws.{map-join}
 use Rattle.walk.specs.declared.Chunk.{Chunk}
 use Rattle.planner.specs.declared.Farm.{Farm}
-use Rattle.planner.specs.Model.{Span}
-use Rattle.planner.specs.Calls.{Said, refused, openSaid, openFarm, unopened, accountSaid, planned, accepts, withPlan, offerAsked, offerSaid, offerFarm}
+use Rattle.planner.specs.Calls.{Said, refused, openSaid, accountSaid, planned, accepts, withPlan, offerAsked, offerSaid, offerFarm}
 use Rattle.planner.specs.Clock.{issued, movedFarm, moveAsked, moveSaid, moveFarm, moveMemory, moveLines}
 use Rattle.reading.specs.declared.Kind.{Kind}
 use Rattle.reading.specs.declared.Kind.the-variants as kind
@@ -20,7 +19,7 @@ use Rattle.protocol.specs.Model.{refusal, answerText, chunkText, chunkTexts, An
 use Rattle.demands.specs.CallLists.{Call, offer, move, handed, withStart, linesBy, History, opening, note, run}
 use Rattle.demands.specs.BegunJobs.{chunkOf}
 use Rattle.demands.specs.Invariant.{run-append}
-use Rattle.printed.specs.Model.{linesIn, answers, dayText}
+use Rattle.printed.specs.Model.{answers}
 
 -- ---- The calls that lines are
 
@@ -211,7 +210,8 @@ answers-text f (l ∷ ls) =
 
 -- ---- The chunk lines
 
-chunks-append : (ps qs : List Print) → chunksIn (ps ++ qs) ≡ chunksIn ps ++ chunksIn qs
+-- The records of two lists of printed lines are those of the one, then those of the other.
+pub chunks-append : (ps qs : List Print) → chunksIn (ps ++ qs) ≡ chunksIn ps ++ chunksIn qs
 unfolding chunksIn
 chunks-append [] qs = refl
 chunks-append (chunk x ∷ ps) qs = ap (λ (l : List Chunk). x ∷ l) (chunks-append ps qs)
