@@ -1,22 +1,25 @@
--- What a day prints is the text of the calls that its readable lines are: the farm after it is the farm that those calls leave, and its `chunk` lines are
--- the chunks that they issue. So demand 3, which is about lists of calls, holds of what the program prints. The definitions come first.
+-- What a day prints is the text of the calls that its readable lines are: the farm after it is the farm that those calls leave (`farm-after`), its `chunk`
+-- lines are the chunks that they issue (`chunks-issued`), and the jobs told `yes` those that they accept (`jobs-accepted`). So demand 3, which is about
+-- lists of calls, can be said of what the program prints (DayDemand3). The definitions come first.
 use mathlib.Core.Path.{_≡_, refl, ap, sym, _∙_}
 use mathlib.Core.List.{List, [], _∷_, _++_, map, append-nil, append-assoc}
 use mathlib.Core.Bool.{Bool, true, false, cond, not}
-use Prim.Native.Nat.{ℕ}
+use Prim.Native.Nat.{ℕ, _-_}
 use lib.Dec.{leb, eqb}
 use lib.ListN.{length, getD, drop, replicate, length-replicate}
 use lib.Seq.{take-at}
 use Rattle.lists.specs.Laws.{map-join}
 use Rattle.walk.specs.declared.Chunk.{Chunk}
 use Rattle.planner.specs.declared.Farm.{Farm}
-use Rattle.planner.specs.Calls.{Said, refused, openSaid, accountSaid, planned, accepts, withPlan, offerAsked, offerSaid, offerFarm}
+use Rattle.planner.specs.Calls.{Word, Open, Yes, Clock, Shown, Account, No, Said, granted, heldBy, allowanceOf, refused, openSaid, accountSaid, planned, accepts, withPlan, offerAsked, offerSaid, offerFarm}
+use Rattle.planner.specs.Model.{between}
+use Rattle.planner.specs.Passes.{passesOf}
 use Rattle.planner.specs.Clock.{issued, movedFarm, moveAsked, moveSaid, moveFarm, moveMemory, moveLines}
 use Rattle.reading.specs.declared.Kind.{Kind}
 use Rattle.reading.specs.declared.Kind.the-variants as kind
 use Rattle.reading.specs.Model.{lineKind, readable, numbersOf}
 use Rattle.protocol.specs.Model.{refusal, answerText, chunkText, chunkTexts, Answered, unread, costsIn, farmLine, jobLine, lent, clockLine, accountLine, inTurn, called, recorded, longest, answered}
-use Rattle.demands.specs.CallLists.{Call, offer, move, handed, withStart, linesBy, History, opening, note, run}
+use Rattle.demands.specs.CallLists.{Call, offer, move, handed, withStart, linesBy, Accepted, jobsBy, History, opening, note, run}
 use Rattle.demands.specs.BegunJobs.{chunkOf}
 use Rattle.demands.specs.Invariant.{run-append}
 use Rattle.printed.specs.Model.{answers}
@@ -93,6 +96,25 @@ linePrints f l = cond (leb (length l) longest) (cond (readable l) (recordedPrint
 unfoldable pub prints : Farm → List (List ℕ) → List Print
 prints f [] = []
 prints f (l ∷ ls) = linePrints f l ++ prints (answered f l .farm) ls
+
+-- the job accepted by an answer to a line with these numbers: a `yes` with its job number, for the show, size and deadline on the line
+abbrev pub acceptedAs : List ℕ → Word → List ℕ → List Accepted
+acceptedAs ns Open vs = []
+acceptedAs ns Yes vs = record { number = getD vs 0 0; show = getD ns 0 0; size = getD ns 1 0; deadline = getD ns 2 0 } ∷ []
+acceptedAs ns Clock vs = []
+acceptedAs ns Shown vs = []
+acceptedAs ns Account vs = []
+acceptedAs ns No vs = []
+
+unfoldable pub acceptedOn : List ℕ → List Print → List Accepted
+acceptedOn ns [] = []
+acceptedOn ns (chunk x ∷ ps) = acceptedOn ns ps
+acceptedOn ns (answer s ∷ ps) = acceptedAs ns (s .word) (s .values) ++ acceptedOn ns ps
+
+-- the jobs that lines are told `yes` to
+unfoldable pub acceptedIn : Farm → List (List ℕ) → List Accepted
+acceptedIn f [] = []
+acceptedIn f (l ∷ ls) = acceptedOn (numbersOf l) (linePrints f l) ++ acceptedIn (answered f l .farm) ls
 
 -- ---- The farm
 
@@ -285,3 +307,90 @@ chunks-from w (l ∷ ls) o =
 -- The `chunk` lines that lines print are the chunks that their calls issue, in order.
 pub chunks-issued : (f : Farm) (ls : List (List ℕ)) → f .opened ≡ true → chunksIn (prints f ls) ≡ map chunkOf (run (opening f) (callsIn ls) .lines)
 chunks-issued f ls o = chunks-from (opening f) ls o
+
+-- ---- The accepted jobs
+
+accepted-after : (ns : List ℕ) (xs : List Chunk) (s : Said) → acceptedOn ns (map chunk xs ++ answer s ∷ []) ≡ acceptedAs ns (s .word) (s .values)
+unfolding acceptedOn
+accepted-after ns [] s = append-nil (acceptedAs ns (s .word) (s .values))
+accepted-after ns (x ∷ xs) s = accepted-after ns xs s
+
+offer-accepted : (f : Farm) (ns : List ℕ)
+    → acceptedOn ns (answer (offerSaid f (getD ns 0 0) (getD ns 1 0) (getD ns 2 0)) ∷ []) ≡ jobsBy f (offer (getD ns 0 0) (getD ns 1 0) (getD ns 2 0))
+unfolding acceptedOn offerSaid
+offer-accepted f ns = go (eqb (offerAsked f s z d) 0) (accepts f s z d) refl refl
+  where
+    s : ℕ
+    s = getD ns 0 0
+
+    z : ℕ
+    z = getD ns 1 0
+
+    d : ℕ
+    d = getD ns 2 0
+
+    go : (a b : Bool) → eqb (offerAsked f s z d) 0 ≡ a → accepts f s z d ≡ b → acceptedOn ns (answer (offerSaid f s z d) ∷ []) ≡ jobsBy f (offer s z d)
+    go true true p q = rw (p, q)
+    go true false p q = rw (p, q)
+    go false b p q = rw (p, p)
+
+move-accepts-none : (f : Farm) (ns : List ℕ) (t n : ℕ) → acceptedAs ns (moveSaid f t n .word) (moveSaid f t n .values) ≡ []
+unfolding moveSaid
+move-accepts-none f ns t n = go (eqb (moveAsked f t n) 0)
+  where
+    go : (a : Bool)
+        → acceptedAs ns (cond {A = Said} a (granted Clock (t ∷ length (issued f t) ∷ [])) (refused (moveAsked f t n)) .word) (cond {A = Said} a (granted Clock (t ∷ length (issued f t) ∷ [])) (refused (moveAsked f t n)) .values)
+        ≡ []
+    go true = refl
+    go false = refl
+
+account-accepts-none : (f : Farm) (ns : List ℕ) (s : ℕ) → acceptedOn ns (answer (accountSaid f s) ∷ []) ≡ []
+unfolding acceptedOn accountSaid
+account-accepts-none f ns s = go (passesOf f) (between 1 s (f .shows)) (s ∷ heldBy f s ∷ (heldBy f s - allowanceOf f s) ∷ [])
+  where
+    go : (a b : Bool) (vs : List ℕ) → acceptedOn ns (answer (cond {A = Said} a (cond b (granted Account vs) (refused 4)) (refused 11)) ∷ []) ≡ []
+    go true true vs = refl
+    go true false vs = refl
+    go false b vs = refl
+
+kind-accepted : (w : History) (k : Kind) (ns : List ℕ) → w .farm .opened ≡ true → w .jobs ++ acceptedOn ns (recordedPrints (w .farm) k ns) ≡ run w (callOf k ns) .jobs
+unfolding recordedPrints calledPrints acceptedOn run
+kind-accepted w kind.Farm ns o =
+    ap (λ (b : Bool). w .jobs ++ acceptedOn ns (cond (not b) (calledPrints (w .farm) kind.Farm ns (drop 5 ns)) unreadPrints)) o ∙ append-nil (w .jobs)
+kind-accepted w kind.Job ns o =
+    ap (λ (b : Bool). w .jobs ++ acceptedOn ns (cond b (calledPrints (w .farm) kind.Job ns (drop 5 ns)) unreadPrints)) o
+    ∙ ap (λ (l : List Accepted). w .jobs ++ l) (offer-accepted (w .farm) ns)
+kind-accepted w kind.Clock ns o =
+    let t = getD ns 0 0 in
+    ap (λ (b : Bool). w .jobs ++ acceptedOn ns (cond b (calledPrints (w .farm) kind.Clock ns (drop 5 ns)) unreadPrints)) o
+    ∙ ap (λ (l : List Accepted). w .jobs ++ l)
+    (accepted-after ns (moveLines (w .farm) t lent) (moveSaid (w .farm) t lent) ∙ move-accepts-none (w .farm) ns t lent)
+kind-accepted w kind.Account ns o =
+    ap (λ (b : Bool). w .jobs ++ acceptedOn ns (cond b (calledPrints (w .farm) kind.Account ns (drop 5 ns)) unreadPrints)) o
+    ∙ ap (λ (l : List Accepted). w .jobs ++ l) (account-accepts-none (w .farm) ns (getD ns 0 0))
+    ∙ append-nil (w .jobs)
+kind-accepted w kind.Unreadable ns o = append-nil (w .jobs)
+
+line-accepted : (w : History) (l : List ℕ) → w .farm .opened ≡ true → w .jobs ++ acceptedOn (numbersOf l) (linePrints (w .farm) l) ≡ run w (lineCall l) .jobs
+unfolding linePrints lineCall run acceptedOn
+line-accepted w l o = go (leb (length l) longest) (readable l)
+  where
+    go : (a b : Bool) → w .jobs ++ acceptedOn (numbersOf l) (cond a (cond b (recordedPrints (w .farm) (lineKind l) (numbersOf l)) unreadPrints) unreadPrints)
+        ≡ run w (cond {A = List Call} a (cond b (callOf (lineKind l) (numbersOf l)) []) []) .jobs
+    go true true = kind-accepted w (lineKind l) (numbersOf l) o
+    go true false = append-nil (w .jobs)
+    go false b = append-nil (w .jobs)
+
+accepted-from : (w : History) (ls : List (List ℕ)) → w .farm .opened ≡ true → w .jobs ++ acceptedIn (w .farm) ls ≡ run w (callsIn ls) .jobs
+unfolding acceptedIn callsIn run
+accepted-from w [] o = append-nil (w .jobs)
+accepted-from w (l ∷ ls) o =
+    sym (append-assoc (w .jobs) (acceptedOn (numbersOf l) (linePrints (w .farm) l)) (acceptedIn (answered (w .farm) l .farm) ls))
+    ∙ ap (λ (xs : List Accepted). xs ++ acceptedIn (answered (w .farm) l .farm) ls) (line-accepted w l o)
+    ∙ ap (λ (g : Farm). run w (lineCall l) .jobs ++ acceptedIn g ls) (line-farm w l o)
+    ∙ accepted-from (run w (lineCall l)) ls (run-opened w (lineCall l) ∙ o)
+    ∙ ap (λ (u : History). u .jobs) (sym (run-append w (lineCall l) (callsIn ls)))
+
+-- The jobs that lines are told `yes` to are the jobs that their calls have accepted, in order.
+pub jobs-accepted : (f : Farm) (ls : List (List ℕ)) → f .opened ≡ true → acceptedIn f ls ≡ run (opening f) (callsIn ls) .jobs
+jobs-accepted f ls o = accepted-from (opening f) ls o

@@ -1,6 +1,7 @@
--- Demand 3 of what a day prints. A day's lines are those that leave the farm unopened, then the first granted `farm` line, then any others; demand 3 holds of
--- the calls that those others are, the `chunk` lines printed are the chunks that these calls issue, and each `account` line says as held ticks
--- the sum over the `chunk` lines of its show printed before it, and as charged ticks what is above the allowance on the `farm` line. The definitions come first.
+-- Demand 3 of what a day prints. A day's lines are those that leave the farm unopened, then the first granted `farm` line, then any others. Demand 3 holds of
+-- the calls that those others are; the jobs told `yes` are the jobs that these calls accept, the `chunk` lines printed the chunks that they issue;
+-- and each `account` line says as held ticks the sum over the `chunk` lines of its show printed before it, and as charged ticks what is above
+-- the allowance on the `farm` line. The definitions come first; `day-demand3` and `printed-day` at the end are the theorems.
 use mathlib.Core.Path.{_≡_, refl, ap, sym, subst, _∙_}
 use mathlib.Core.List.{List, [], _∷_, _++_, map, append-assoc, List·Memᴰ}
 use mathlib.Core.Bool.{Bool, true, false, cond, _&&_, false≢true}
@@ -27,7 +28,7 @@ use Rattle.demands.specs.BegunJobs.{chunkOf}
 use Rattle.demands.specs.Demand1.{open-keeps}
 use Rattle.demands.specs.Demand3.{Issued, Booked, Demand3, demand3}
 use Rattle.printed.specs.Model.{linesIn, answers, dayText}
-use Rattle.printed.specs.DayCalls.{callsIn, farmAfter, Print, answer, printTexts, chunksIn, calledPrints, unreadPrints, recordedPrints, linePrints, prints, run-opened, farm-after, answers-text, chunks-append, chunks-issued}
+use Rattle.printed.specs.DayCalls.{callsIn, farmAfter, Print, answer, printTexts, chunksIn, calledPrints, unreadPrints, recordedPrints, linePrints, prints, acceptedOn, acceptedIn, run-opened, farm-after, answers-text, chunks-append, chunks-issued, jobs-accepted}
 
 -- ---- Lines
 
@@ -82,6 +83,8 @@ pub record DayDemand3 (before : List (List ℕ)) (l : List ℕ) (after : List (L
   pub farm : farmAfter unopened (before ++ l ∷ after) ≡ run (opening (farmOn l)) (callsIn after) .farm
   -- The `chunk` lines printed are the chunks that the calls issue, in order.
   pub chunks : chunksIn (prints unopened (before ++ l ∷ after)) ≡ map chunkOf (run (opening (farmOn l)) (callsIn after) .lines)
+  -- The jobs that are told `yes` are the jobs that the calls accept, in order.
+  pub accepted : acceptedIn unopened (before ++ l ∷ after) ≡ run (opening (farmOn l)) (callsIn after) .jobs
   -- Demand 3 holds of the calls.
   pub demand : Demand3 (farmOn l) (callsIn after) (run (opening (farmOn l)) (callsIn after))
   -- Each `account` line prints, after what the lines before it print, what the `chunk` lines among that add up to.
@@ -91,9 +94,9 @@ pub record DayDemand3 (before : List (List ℕ)) (l : List ℕ) (after : List (L
       ++ answer (accountOf (allowancesOn l) (getD (numbersOf a) 0 0) (chunksIn (prints unopened (before ++ l ∷ part))))
       ∷ prints (farmAfter unopened (before ++ l ∷ part)) rest
 
--- of all lines of a day: none opens a farm, and no `chunk` line is printed; or one opens it first, and demand 3 holds
+-- of all lines of a day: none opens a farm, no `chunk` line is printed and no job accepted; or one opens it first, and demand 3 holds
 pub data Day (ls : List (List ℕ)) : Type 0 where
-  never : All Stays ls → chunksIn (prints unopened ls) ≡ [] → Day ls
+  never : All Stays ls → chunksIn (prints unopened ls) ≡ [] → acceptedIn unopened ls ≡ [] → Day ls
   opens : (before : List (List ℕ)) (l : List ℕ) (after : List (List ℕ)) → ls ≡ before ++ l ∷ after → All Stays before → Opens l → DayDemand3 before l after → Day ls
 
 -- ---- Held ticks
@@ -320,6 +323,13 @@ prints-behind f xs l ys a zs =
     let e : (xs ++ l ∷ ys) ++ (a ∷ zs) ≡ xs ++ l ∷ (ys ++ a ∷ zs) = append-assoc xs (l ∷ ys) (a ∷ zs) in
     ap (prints f) (sym e) ∙ prints-at f (xs ++ l ∷ ys) a zs
 
+accepted-append : (f : Farm) (xs ys : List (List ℕ)) → acceptedIn f (xs ++ ys) ≡ acceptedIn f xs ++ acceptedIn (farmAfter f xs) ys
+unfolding acceptedIn farmAfter
+accepted-append f [] ys = refl
+accepted-append f (l ∷ xs) ys =
+    ap (λ (js : List Accepted). acceptedOn (numbersOf l) (linePrints f l) ++ js) (accepted-append (answered f l .farm) xs ys)
+    ∙ sym (append-assoc (acceptedOn (numbersOf l) (linePrints f l)) (acceptedIn (answered f l .farm) xs) (acceptedIn (farmAfter (answered f l .farm) xs) ys))
+
 -- ---- Before the opening
 
 stays-farm : (ls : List (List ℕ)) → All Stays ls → farmAfter unopened ls ≡ unopened
@@ -353,6 +363,41 @@ stays-chunks (l ∷ ls) h =
     ∙ ap (λ (g : Farm). chunksIn (prints g ls)) (h .0)
     ∙ stays-chunks ls (h .1)
 
+open-accepts-none : (n : ℕ) (c : Costs) (al ns : List ℕ) → acceptedOn ns (answer (openSaid n c al) ∷ []) ≡ []
+unfolding acceptedOn openSaid
+open-accepts-none n c al ns = go (between 1 n 64) (costsWithin c) (showsWithin al)
+  where
+    go : (a b d : Bool) → acceptedOn ns (answer (cond {A = Said} a (cond b (cond d (granted Open (n ∷ length al ∷ [])) (refused 3)) (refused 2)) (refused 1)) ∷ []) ≡ []
+    go true true true = refl
+    go true true false = refl
+    go true false d = refl
+    go false b d = refl
+
+unopened-kind-accepts : (k : Kind) (ns : List ℕ) → acceptedOn ns (recordedPrints unopened k ns) ≡ []
+unfolding recordedPrints calledPrints acceptedOn
+unopened-kind-accepts kind.Farm ns = open-accepts-none (getD ns 0 0) (costsIn ns) (drop 5 ns) ns
+unopened-kind-accepts kind.Job ns = refl
+unopened-kind-accepts kind.Clock ns = refl
+unopened-kind-accepts kind.Account ns = refl
+unopened-kind-accepts kind.Unreadable ns = refl
+
+unopened-accepts : (l : List ℕ) → acceptedOn (numbersOf l) (linePrints unopened l) ≡ []
+unfolding linePrints acceptedOn
+unopened-accepts l = go (leb (length l) longest) (readable l)
+  where
+    go : (a b : Bool) → acceptedOn (numbersOf l) (cond a (cond b (recordedPrints unopened (lineKind l) (numbersOf l)) unreadPrints) unreadPrints) ≡ []
+    go true true = unopened-kind-accepts (lineKind l) (numbersOf l)
+    go true false = refl
+    go false b = refl
+
+stays-accepts : (ls : List (List ℕ)) → All Stays ls → acceptedIn unopened ls ≡ []
+unfolding acceptedIn
+stays-accepts [] h = refl
+stays-accepts (l ∷ ls) h =
+    ap (λ (js : List Accepted). js ++ acceptedIn (answered unopened l .farm) ls) (unopened-accepts l)
+    ∙ ap (λ (g : Farm). acceptedIn g ls) (h .0)
+    ∙ stays-accepts ls (h .1)
+
 module _ (before : List (List ℕ)) (l : List ℕ) (h : All Stays before) (o : Opens l) where
   lines-farm : (after : List (List ℕ)) → farmAfter unopened (before ++ l ∷ after) ≡ run (opening (farmOn l)) (callsIn after) .farm
   unfolding farmAfter
@@ -373,6 +418,16 @@ module _ (before : List (List ℕ)) (l : List ℕ) (h : All Stays before) (o : O
       ∙ ap (λ (xs : List Chunk). xs ++ chunksIn (prints (answered unopened l .farm) after)) (unopened-chunks l)
       ∙ ap (λ (g : Farm). chunksIn (prints g after)) (opens-farm l o)
       ∙ chunks-issued (farmOn l) after (opens-opened l o)
+
+  lines-accepted : (after : List (List ℕ)) → acceptedIn unopened (before ++ l ∷ after) ≡ run (opening (farmOn l)) (callsIn after) .jobs
+  unfolding acceptedIn
+  lines-accepted after =
+      accepted-append unopened before (l ∷ after)
+      ∙ ap (λ (js : List Accepted). js ++ acceptedIn (farmAfter unopened before) (l ∷ after)) (stays-accepts before h)
+      ∙ ap (λ (g : Farm). acceptedIn g (l ∷ after)) (stays-farm before h)
+      ∙ ap (λ (js : List Accepted). js ++ acceptedIn (answered unopened l .farm) after) (unopened-accepts l)
+      ∙ ap (λ (g : Farm). acceptedIn g after) (opens-farm l o)
+      ∙ jobs-accepted (farmOn l) after (opens-opened l o)
 
   lines-demand : (after : List (List ℕ)) → Demand3 (farmOn l) (callsIn after) (run (opening (farmOn l)) (callsIn after))
   lines-demand after = demand3 (getD (numbersOf l) 0 0) (costsIn (numbersOf l)) (allowancesOn l) (o .granted) (callsIn after)
@@ -438,7 +493,9 @@ module _ (before : List (List ℕ)) (l : List ℕ) (h : All Stays before) (o : O
           (ap (λ (f : Farm). accountSaid f s) (lines-farm part) ∙ lines-account part s ∙ ap (accountOf (allowancesOn l) s) (sym (lines-chunks part)))
 
       then : linePrints g a ++ prints (answered g a .farm) rest ≡ answer (accountOf (allowancesOn l) s (chunksIn (prints unopened (before ++ l ∷ part)))) ∷ prints g rest
-      then = ap (λ (ps : List Print). ps ++ prints (answered g a .farm) rest) said ∙ ap (λ (f : Farm). answer (accountOf (allowancesOn l) s (chunksIn (prints unopened (before ++ l ∷ part)))) ∷ prints f rest) (account-farm g a r)
+      then =
+          ap (λ (ps : List Print). ps ++ prints (answered g a .farm) rest) said
+          ∙ ap (λ (f : Farm). answer (accountOf (allowancesOn l) s (chunksIn (prints unopened (before ++ l ∷ part)))) ∷ prints f rest) (account-farm g a r)
 
 -- ---- The theorems
 
@@ -448,17 +505,18 @@ day-demand3 before l after h o = record {
   text = answers-text unopened (before ++ l ∷ after);
   farm = lines-farm before l h o after;
   chunks = lines-chunks before l h o after;
+  accepted = lines-accepted before l h o after;
   demand = lines-demand before l h o after;
   accounts = λ part a rest e r. ap (λ (xs : List (List ℕ)). prints unopened (before ++ l ∷ xs)) e ∙ lines-accounts before l h o part a rest r;
 }
 
 further : (l : List ℕ) (ls : List (List ℕ)) → Stays l → Day ls → Day (l ∷ ls)
-further l ls s (never h k) = never (s, h) (stays-chunks (l ∷ ls) (s, h))
+further l ls s (never h k j) = never (s, h) (stays-chunks (l ∷ ls) (s, h)) (stays-accepts (l ∷ ls) (s, h))
 further l ls s (opens before x after e h o d) = opens (l ∷ before) x after (ap (λ (xs : List (List ℕ)). l ∷ xs) e) (s, h) o (day-demand3 (l ∷ before) x after (s, h) o)
 
 -- All lists of lines are such lines, or none of them opens a farm.
 pub lines-day : (ls : List (List ℕ)) → Day ls
-lines-day [] = never tt (stays-chunks [] tt)
+lines-day [] = never tt (stays-chunks [] tt) (stays-accepts [] tt)
 lines-day (l ∷ ls) = ⊎-elim (λ s. further l ls s (lines-day ls)) (λ o. opens [] l ls refl tt o (day-demand3 [] l ls tt o)) (stays-or-opens l)
 
 -- **Demand 3 of every input**: what the program prints for it is the texts of its printed lines, of which `Day` holds.
