@@ -1,3 +1,6 @@
--- What a reader must believe is Model; Day shows that the blocks in which an input comes print the same.
+-- What a reader must believe is Model and the definitions that begin DayCalls and DayDemand3. Day shows that the blocks in which an input comes print the same,
+-- DayCalls that the lines of a day are calls, DayDemand3 that demand 3 holds of what is printed.
 pub mod Model
 pub mod Day
+pub mod DayCalls
+pub mod DayDemand3

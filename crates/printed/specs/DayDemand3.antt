@@ -1,0 +1,524 @@
+-- Demand 3 of what a day prints. A day's lines are those that leave the farm unopened, then the first granted `farm` line, then any others. Demand 3 holds of
+-- the calls that those others are; the jobs told `yes` are the jobs that these calls accept, the `chunk` lines printed the chunks that they issue;
+-- and each `account` line says as held ticks the sum over the `chunk` lines of its show printed before it, and as charged ticks what is above
+-- the allowance on the `farm` line. The definitions come first; `day-demand3` and `printed-day` at the end are the theorems.
+use mathlib.Core.Path.{_≡_, refl, ap, sym, subst, _∙_}
+use mathlib.Core.List.{List, [], _∷_, _++_, map, append-assoc, List·Memᴰ}
+use mathlib.Core.Bool.{Bool, true, false, cond, _&&_, false≢true}
+use mathlib.Core.Logic.{_⊎_, inl, inr, ⊎-elim}
+use Prim.Native.Nat.{ℕ, zero, suc, _+_, _-_}
+use native.Mathlib.Omega.{arith}
+use borrow.Author.Tests.{eqb-false}
+use lib.Dec.{leb, eqb}
+use lib.ListN.{length, getD, drop, replicate, List·getD-append}
+use Rattle.lists.specs.Laws.{All, all-map, all-of, all-image, at-member}
+use Rattle.shares.specs.declared.Costs.{Costs}
+use Rattle.limits.specs.Says.{between-is}
+use Rattle.walk.specs.declared.Chunk.{Chunk}
+use Rattle.planner.specs.declared.Farm.{Farm}
+use Rattle.planner.specs.Model.{between, Between, costsWithin, Span}
+use Rattle.planner.specs.Calls.{Said, Open, Account, granted, refused, showsWithin, openSaid, openFarm, openedWith, unopened, accountSaid, heldBy, allowanceOf, planned, accepts, withPlan, offerAsked, offerFarm}
+use Rattle.planner.specs.Clock.{holds, movedFarm, moveAsked, moveFarm}
+use Rattle.reading.specs.declared.Kind.{Kind}
+use Rattle.reading.specs.declared.Kind.the-variants as kind
+use Rattle.reading.specs.Model.{lineKind, readable, numbersOf}
+use Rattle.protocol.specs.Model.{Answered, unread, costsIn, farmLine, accountLine, inTurn, called, recorded, longest, answered}
+use Rattle.demands.specs.CallLists.{Call, offer, move, handed, Accepted, History, opening, note, run, heldOf, linesFor, FromFirst}
+use Rattle.demands.specs.BegunJobs.{chunkOf}
+use Rattle.demands.specs.Demand1.{open-keeps}
+use Rattle.demands.specs.Demand3.{Issued, Booked, Demand3, demand3}
+use Rattle.printed.specs.Model.{linesIn, answers, dayText}
+use Rattle.printed.specs.DayCalls.{callsIn, farmAfter, Print, answer, printTexts, chunksIn, calledPrints, unreadPrints, recordedPrints, linePrints, prints, acceptedOn, acceptedIn, run-opened, farm-after, answers-text, chunks-append, chunks-issued, jobs-accepted}
+
+-- ---- Lines
+
+-- the line can be read, and is of this kind
+pub record Reads (l : List ℕ) (k : Kind) : Type 0 where
+  pub short : leb (length l) longest ≡ true
+  pub reads : readable l ≡ true
+  pub is : lineKind l ≡ k
+
+-- the allowances on a `farm` line, and the farm that it opens
+abbrev pub allowancesOn : List ℕ → List ℕ
+allowancesOn l = drop 5 (numbersOf l)
+
+abbrev pub farmOn : List ℕ → Farm
+farmOn l = openFarm (getD (numbersOf l) 0 0) (costsIn (numbersOf l)) (allowancesOn l)
+
+-- a `farm` line whose opening is granted
+pub record Opens (l : List ℕ) : Type 0 where
+  pub line : Reads l kind.Farm
+  pub granted : openSaid (getD (numbersOf l) 0 0) (costsIn (numbersOf l)) (allowancesOn l) .number ≡ 0
+
+-- a line that leaves the farm unopened
+abbrev pub Stays : List ℕ → Type 0
+Stays l = answered unopened l .farm ≡ unopened
+
+-- ---- Held ticks as they can be read from the printed lines
+
+-- the start of a job: the send start of its first chunk
+unfoldable pub startOf : ℕ → List Chunk → ℕ
+startOf n [] = 0
+startOf n (x ∷ xs) = cond (eqb (x .job) n) (x .start) (startOf n xs)
+
+-- the finish minus the job's start, over those of xs that are of show s; the jobs' starts are those among all
+unfoldable pub heldAmong : ℕ → List Chunk → List Chunk → ℕ
+heldAmong s all [] = 0
+heldAmong s all (x ∷ xs) = cond (eqb (x .show) s) ((x .finish - startOf (x .job) all) + heldAmong s all xs) (heldAmong s all xs)
+
+abbrev pub heldIn : ℕ → List Chunk → ℕ
+heldIn s xs = heldAmong s xs xs
+
+-- what an `account` line of show s is answered on a farm with these allowances after these `chunk` lines
+abbrev pub accountOf : List ℕ → ℕ → List Chunk → Said
+accountOf al s xs = cond (between 1 s (length al)) (granted Account (s ∷ heldIn s xs ∷ (heldIn s xs - getD al (s - 1) 0) ∷ [])) (refused 4)
+
+-- ---- The claim
+
+-- of the lines before the one that opens the farm, that one, and those after it
+pub record DayDemand3 (before : List (List ℕ)) (l : List ℕ) (after : List (List ℕ)) : Type 0 where
+  -- What is printed is the texts of these lines.
+  pub text : answers unopened (before ++ l ∷ after) ≡ printTexts (prints unopened (before ++ l ∷ after))
+  -- The farm after them is the farm that the calls leave.
+  pub farm : farmAfter unopened (before ++ l ∷ after) ≡ run (opening (farmOn l)) (callsIn after) .farm
+  -- The `chunk` lines printed are the chunks that the calls issue, in order.
+  pub chunks : chunksIn (prints unopened (before ++ l ∷ after)) ≡ map chunkOf (run (opening (farmOn l)) (callsIn after) .lines)
+  -- The jobs that are told `yes` are the jobs that the calls accept, in order.
+  pub accepted : acceptedIn unopened (before ++ l ∷ after) ≡ run (opening (farmOn l)) (callsIn after) .jobs
+  -- Demand 3 holds of the calls.
+  pub demand : Demand3 (farmOn l) (callsIn after) (run (opening (farmOn l)) (callsIn after))
+  -- Each `account` line prints, after what the lines before it print, what the `chunk` lines among that add up to.
+  pub accounts : (part : List (List ℕ)) (a : List ℕ) (rest : List (List ℕ)) → after ≡ part ++ a ∷ rest → Reads a kind.Account
+      → prints unopened (before ++ l ∷ after)
+      ≡ prints unopened (before ++ l ∷ part)
+      ++ answer (accountOf (allowancesOn l) (getD (numbersOf a) 0 0) (chunksIn (prints unopened (before ++ l ∷ part))))
+      ∷ prints (farmAfter unopened (before ++ l ∷ part)) rest
+
+-- of all lines of a day: none opens a farm, no `chunk` line is printed and no job accepted; or one opens it first, and demand 3 holds
+pub data Day (ls : List (List ℕ)) : Type 0 where
+  never : All Stays ls → chunksIn (prints unopened ls) ≡ [] → acceptedIn unopened ls ≡ [] → Day ls
+  opens : (before : List (List ℕ)) (l : List ℕ) (after : List (List ℕ)) → ls ≡ before ++ l ∷ after → All Stays before → Opens l → DayDemand3 before l after → Day ls
+
+-- ---- Held ticks
+
+abbrev firstStart : List Span → ℕ
+firstStart [] = 0
+firstStart (y ∷ ys) = y .chunk .start
+
+start-first : (n : ℕ) (xs : List Span) → startOf n (map chunkOf xs) ≡ firstStart (linesFor n xs)
+unfolding startOf linesFor
+start-first n [] = refl
+start-first n (x ∷ xs) = go (eqb (x .chunk .job) n) (start-first n xs)
+  where
+    go : (b : Bool) → startOf n (map chunkOf xs) ≡ firstStart (linesFor n xs)
+        → cond b (x .chunk .start) (startOf n (map chunkOf xs)) ≡ firstStart (cond b (x ∷ linesFor n xs) (linesFor n xs))
+    go true h = refl
+    go false h = h
+
+from-first : (ys : List Span) → FromFirst ys → All (λ (y : Span). y .from ≡ firstStart ys) ys
+from-first [] h = tt
+from-first (y ∷ ys) h = h
+
+lines-for-all : (P : Span → Type 0) (n : ℕ) (xs : List Span) → All P (linesFor n xs) → All (λ (y : Span). y .chunk .job ≡ n → P y) xs
+unfolding linesFor
+lines-for-all P n [] h = tt
+lines-for-all P n (x ∷ xs) h = go (eqb (x .chunk .job) n) refl h (lines-for-all P n xs)
+  where
+    go : (b : Bool) → eqb (x .chunk .job) n ≡ b → All P (cond b (x ∷ linesFor n xs) (linesFor n xs))
+        → (All P (linesFor n xs) → All (λ (y : Span). y .chunk .job ≡ n → P y) xs) → All (λ (y : Span). y .chunk .job ≡ n → P y) (x ∷ xs)
+    go true e k r = (λ q. k .0, r (k .1))
+    go false e k r = (λ q. absurd (eqb-false (x .chunk .job) n e q), r k)
+
+-- the start noted with each issued chunk of job n is the job's start
+abbrev Started : History → ℕ → Type 0
+Started w n = All (λ (y : Span). y .chunk .job ≡ n → y .from ≡ startOf n (map chunkOf (w .lines))) (w .lines)
+
+started-from : (w : History) (n : ℕ) → FromFirst (linesFor n (w .lines)) → Started w n
+started-from w n h =
+    subst (λ (u : ℕ). All (λ (y : Span). y .chunk .job ≡ n → y .from ≡ u) (w .lines)) (sym (start-first n (w .lines)))
+    (lines-for-all (λ (y : Span). y .from ≡ firstStart (linesFor n (w .lines))) n (w .lines) (from-first (linesFor n (w .lines)) h))
+
+-- Each issued chunk counts from the send start of the first chunk issued of its job.
+pub issued-started : (f : Farm) (cs : List Call) (w : History) → Demand3 f cs w
+    → All (λ (y : Span). y .from ≡ startOf (y .chunk .job) (map chunkOf (w .lines))) (w .lines)
+issued-started f cs w d =
+    let each : All (Started w) (map (λ (x : Accepted). x .number) (w .jobs)) =
+    all-image (Started w) (λ (x : Accepted). x .number) (w .jobs)
+    (all-map (λ x h. started-from w (x .number) (⊎-elim (λ (i : Issued x w). i .start) (λ (b : Booked x w). subst FromFirst (sym (b .lines)) tt) h)) (w .jobs) (d .each)) in
+    all-of (w .lines) (λ y m.
+    at-member (λ (z : Span). z .chunk .job ≡ y .chunk .job → z .from ≡ startOf (y .chunk .job) (map chunkOf (w .lines))) m
+    (at-member (Started w) (at-member (λ (z : Span). List·Memᴰ (z .chunk .job) (map (λ (x : Accepted). x .number) (w .jobs))) m (d .only)) each) refl)
+
+held-among : (s : ℕ) (all : List Chunk) (xs : List Span) → All (λ (y : Span). y .from ≡ startOf (y .chunk .job) all) xs → heldOf s xs ≡ heldAmong s all (map chunkOf xs)
+unfolding heldOf heldAmong
+held-among s all [] h = refl
+held-among s all (x ∷ xs) h = go (eqb (x .chunk .show) s) (held-among s all xs (h .1))
+  where
+    go : (b : Bool) → heldOf s xs ≡ heldAmong s all (map chunkOf xs)
+        → cond b (holds x + heldOf s xs) (heldOf s xs) ≡ cond b ((x .chunk .finish - startOf (x .chunk .job) all) + heldAmong s all (map chunkOf xs)) (heldAmong s all (map chunkOf xs))
+    go true r = ap (λ (u : ℕ). (x .chunk .finish - u) + heldOf s xs) (h .0) ∙ ap (λ (u : ℕ). (x .chunk .finish - startOf (x .chunk .job) all) + u) r
+    go false r = r
+
+-- The sum over the issued chunks of a show can be read from the printed lines alone.
+pub held-printed : (f : Farm) (cs : List Call) (w : History) → Demand3 f cs w → (s : ℕ) → heldOf s (w .lines) ≡ heldIn s (map chunkOf (w .lines))
+held-printed f cs w d s = held-among s (map chunkOf (w .lines)) (w .lines) (issued-started f cs w d)
+
+-- ---- What calls keep
+
+-- no call changes these
+pub record Keeps (f g : Farm) : Type 0 where
+  pub shows : g .shows ≡ f .shows
+  pub allowances : g .allowances ≡ f .allowances
+
+handed-keeps : (f : Farm) (c : Call) → Keeps f (handed f c)
+unfolding offerFarm moveFarm
+handed-keeps f (offer s z d) = go (eqb (offerAsked f s z d) 0) (accepts f s z d)
+  where
+    go : (a b : Bool) → Keeps f (cond {A = Farm} a (cond b (withPlan f (planned f s z d)) f) f)
+    go true true = record { shows = refl; allowances = refl }
+    go true false = record { shows = refl; allowances = refl }
+    go false b = record { shows = refl; allowances = refl }
+handed-keeps f (move t m) = go (eqb (moveAsked f t (length m)) 0)
+  where
+    go : (a : Bool) → Keeps f (cond {A = Farm} a (movedFarm f t) f)
+    go true = record { shows = refl; allowances = refl }
+    go false = record { shows = refl; allowances = refl }
+
+-- The shows and their allowances are those of the opening.
+pub run-keeps : (w : History) (cs : List Call) → Keeps (w .farm) (run w cs .farm)
+unfolding run
+run-keeps w [] = record { shows = refl; allowances = refl }
+run-keeps w (c ∷ cs) =
+    let r = run-keeps (note w c) cs in
+    let h = handed-keeps (w .farm) c in
+    record { shows = r .shows ∙ h .shows; allowances = r .allowances ∙ h .allowances }
+
+-- ---- A line that can be read
+
+answered-read : (f : Farm) (l : List ℕ) (k : Kind) → Reads l k → answered f l ≡ recorded f k (numbersOf l)
+unfolding answered
+answered-read f l k h =
+    ap (λ (b : Bool). cond b (cond (readable l) (recorded f (lineKind l) (numbersOf l)) (unread f)) (unread f)) (h .short)
+    ∙ ap (λ (b : Bool). cond b (recorded f (lineKind l) (numbersOf l)) (unread f)) (h .reads)
+    ∙ ap (λ (j : Kind). recorded f j (numbersOf l)) (h .is)
+
+prints-read : (f : Farm) (l : List ℕ) (k : Kind) → Reads l k → linePrints f l ≡ recordedPrints f k (numbersOf l)
+unfolding linePrints
+prints-read f l k h =
+    ap (λ (b : Bool). cond b (cond (readable l) (recordedPrints f (lineKind l) (numbersOf l)) unreadPrints) unreadPrints) (h .short)
+    ∙ ap (λ (b : Bool). cond b (recordedPrints f (lineKind l) (numbersOf l)) unreadPrints) (h .reads)
+    ∙ ap (λ (j : Kind). recordedPrints f j (numbersOf l)) (h .is)
+
+account-prints : (f : Farm) (a : List ℕ) → f .opened ≡ true → Reads a kind.Account → linePrints f a ≡ answer (accountSaid f (getD (numbersOf a) 0 0)) ∷ []
+unfolding recordedPrints calledPrints
+account-prints f a o h =
+    prints-read f a kind.Account h ∙ ap (λ (b : Bool). cond b (answer (accountSaid f (getD (numbersOf a) 0 0)) ∷ []) unreadPrints) o
+
+account-farm : (f : Farm) (a : List ℕ) → Reads a kind.Account → answered f a .farm ≡ f
+unfolding recorded called accountLine
+account-farm f a h = ap (λ (x : Answered). x .farm) (answered-read f a kind.Account h) ∙ go (f .opened)
+  where
+    go : (b : Bool) → cond {A = Answered} b (accountLine f (getD (numbersOf a) 0 0)) (unread f) .farm ≡ f
+    go true = refl
+    go false = refl
+
+-- ---- The opening
+
+granted-opens : (n : ℕ) (c : Costs) (al : List ℕ) → openSaid n c al .number ≡ 0 → openFarm n c al ≡ openedWith n c al
+unfolding openSaid openFarm
+granted-opens n c al = go (between 1 n 64) (costsWithin c) (showsWithin al)
+  where
+    go : (a b d : Bool) → cond {A = Said} a (cond b (cond d (granted Open (n ∷ length al ∷ [])) (refused 3)) (refused 2)) (refused 1) .number ≡ 0
+        → cond {A = Farm} (a && b && d) (openedWith n c al) unopened ≡ openedWith n c al
+    go true true true e = refl
+    go true true false e = absurd (omega arith)
+    go true false d e = absurd (omega arith)
+    go false b d e = absurd (omega arith)
+
+opens-opened : (l : List ℕ) → Opens l → farmOn l .opened ≡ true
+opens-opened l h = ap (λ (f : Farm). f .opened) (granted-opens (getD (numbersOf l) 0 0) (costsIn (numbersOf l)) (allowancesOn l) (h .granted))
+
+opens-shows : (l : List ℕ) → Opens l → farmOn l .shows ≡ length (allowancesOn l)
+opens-shows l h = ap (λ (f : Farm). f .shows) (granted-opens (getD (numbersOf l) 0 0) (costsIn (numbersOf l)) (allowancesOn l) (h .granted))
+
+opens-allowance : (l : List ℕ) → Opens l → (s : ℕ) → between 1 s (length (allowancesOn l)) ≡ true → allowanceOf (farmOn l) s ≡ getD (allowancesOn l) (s - 1) 0
+opens-allowance l h s e =
+    let al = allowancesOn l in
+    let b = between-is 1 s (length al) e in
+    ap (λ (f : Farm). allowanceOf f s) (granted-opens (getD (numbersOf l) 0 0) (costsIn (numbersOf l)) al (h .granted))
+    ∙ List·getD-append al (replicate (32 - length al) 0) 0 (s - 1) (omega (arith, b .0, b .1))
+
+-- A `farm` line whose opening is granted hands its farm back.
+pub opens-farm : (l : List ℕ) → Opens l → answered unopened l .farm ≡ farmOn l
+unfolding recorded called farmLine
+opens-farm l h = ap (λ (x : Answered). x .farm) (answered-read unopened l kind.Farm (h .line))
+
+refused-stays : (l : List ℕ) → Reads l kind.Farm → (m : ℕ) → openSaid (getD (numbersOf l) 0 0) (costsIn (numbersOf l)) (allowancesOn l) .number ≡ suc m → Stays l
+unfolding recorded called farmLine
+refused-stays l h m e =
+    ap (λ (x : Answered). x .farm) (answered-read unopened l kind.Farm h) ∙ open-keeps (getD (numbersOf l) 0 0) (costsIn (numbersOf l)) (allowancesOn l) m e
+
+other-stays : (l : List ℕ) (k : Kind) → Reads l k → inTurn k false ≡ false → Stays l
+unfolding recorded
+other-stays l k h e =
+    ap (λ (x : Answered). x .farm) (answered-read unopened l k h)
+    ∙ ap (λ (b : Bool). cond {A = Answered} b (called unopened k (numbersOf l) (drop 5 (numbersOf l))) (unread unopened) .farm) e
+
+unread-stays : (l : List ℕ) → readable l ≡ false → Stays l
+unfolding answered
+unread-stays l q = go (leb (length l) longest) (readable l) q
+  where
+    go : (a b : Bool) → b ≡ false → cond {A = Answered} a (cond b (recorded unopened (lineKind l) (numbersOf l)) (unread unopened)) (unread unopened) .farm ≡ unopened
+    go true true e = absurd (false≢true (sym e))
+    go true false e = refl
+    go false b e = refl
+
+long-stays : (l : List ℕ) → leb (length l) longest ≡ false → Stays l
+unfolding answered
+long-stays l p = ap (λ (a : Bool). cond {A = Answered} a (cond (readable l) (recorded unopened (lineKind l) (numbersOf l)) (unread unopened)) (unread unopened) .farm) p
+
+-- Before a farm is opened a line leaves it unopened or opens one.
+pub stays-or-opens : (l : List ℕ) → Stays l ⊎ Opens l
+stays-or-opens l = short (leb (length l) longest) (readable l) refl refl
+  where
+    number : Reads l kind.Farm → (m : ℕ) → openSaid (getD (numbersOf l) 0 0) (costsIn (numbersOf l)) (allowancesOn l) .number ≡ m → Stays l ⊎ Opens l
+    number h zero e = inr (record { line = h; granted = e })
+    number h (suc m) e = inl (refused-stays l h m e)
+
+    kinds : (k : Kind) → Reads l k → Stays l ⊎ Opens l
+    kinds kind.Farm h = number h (openSaid (getD (numbersOf l) 0 0) (costsIn (numbersOf l)) (allowancesOn l) .number) refl
+    kinds kind.Job h = inl (other-stays l kind.Job h refl)
+    kinds kind.Clock h = inl (other-stays l kind.Clock h refl)
+    kinds kind.Account h = inl (other-stays l kind.Account h refl)
+    kinds kind.Unreadable h = inl (other-stays l kind.Unreadable h refl)
+
+    short : (a b : Bool) → leb (length l) longest ≡ a → readable l ≡ b → Stays l ⊎ Opens l
+    short true true p q = kinds (lineKind l) (record { short = p; reads = q; is = refl })
+    short true false p q = inl (unread-stays l q)
+    short false b p q = inl (long-stays l p)
+
+-- ---- Lines in two parts
+
+farm-append : (f : Farm) (xs ys : List (List ℕ)) → farmAfter f (xs ++ ys) ≡ farmAfter (farmAfter f xs) ys
+unfolding farmAfter
+farm-append f [] ys = refl
+farm-append f (l ∷ xs) ys = farm-append (answered f l .farm) xs ys
+
+-- What lines in two parts print is what the one part prints, then what the other prints from the farm that the one leaves.
+pub prints-append : (f : Farm) (xs ys : List (List ℕ)) → prints f (xs ++ ys) ≡ prints f xs ++ prints (farmAfter f xs) ys
+unfolding prints farmAfter
+prints-append f [] ys = refl
+prints-append f (l ∷ xs) ys =
+    ap (λ (ps : List Print). linePrints f l ++ ps) (prints-append (answered f l .farm) xs ys)
+    ∙ sym (append-assoc (linePrints f l) (prints (answered f l .farm) xs) (prints (farmAfter (answered f l .farm) xs) ys))
+
+prints-at : (f : Farm) (xs : List (List ℕ)) (a : List ℕ) (ys : List (List ℕ))
+    → prints f (xs ++ a ∷ ys) ≡ prints f xs ++ (linePrints (farmAfter f xs) a ++ prints (answered (farmAfter f xs) a .farm) ys)
+unfolding prints
+prints-at f xs a ys = prints-append f xs (a ∷ ys)
+
+prints-behind : (f : Farm) (xs : List (List ℕ)) (l : List ℕ) (ys : List (List ℕ)) (a : List ℕ) (zs : List (List ℕ))
+    → prints f (xs ++ l ∷ (ys ++ a ∷ zs)) ≡ prints f (xs ++ l ∷ ys) ++ (linePrints (farmAfter f (xs ++ l ∷ ys)) a ++ prints (answered (farmAfter f (xs ++ l ∷ ys)) a .farm) zs)
+prints-behind f xs l ys a zs =
+    let e : (xs ++ l ∷ ys) ++ (a ∷ zs) ≡ xs ++ l ∷ (ys ++ a ∷ zs) = append-assoc xs (l ∷ ys) (a ∷ zs) in
+    ap (prints f) (sym e) ∙ prints-at f (xs ++ l ∷ ys) a zs
+
+accepted-append : (f : Farm) (xs ys : List (List ℕ)) → acceptedIn f (xs ++ ys) ≡ acceptedIn f xs ++ acceptedIn (farmAfter f xs) ys
+unfolding acceptedIn farmAfter
+accepted-append f [] ys = refl
+accepted-append f (l ∷ xs) ys =
+    ap (λ (js : List Accepted). acceptedOn (numbersOf l) (linePrints f l) ++ js) (accepted-append (answered f l .farm) xs ys)
+    ∙ sym (append-assoc (acceptedOn (numbersOf l) (linePrints f l)) (acceptedIn (answered f l .farm) xs) (acceptedIn (farmAfter (answered f l .farm) xs) ys))
+
+-- ---- Before the opening
+
+stays-farm : (ls : List (List ℕ)) → All Stays ls → farmAfter unopened ls ≡ unopened
+unfolding farmAfter
+stays-farm [] h = refl
+stays-farm (l ∷ ls) h = ap (λ (g : Farm). farmAfter g ls) (h .0) ∙ stays-farm ls (h .1)
+
+unopened-kind : (k : Kind) (ns : List ℕ) → chunksIn (recordedPrints unopened k ns) ≡ []
+unfolding recordedPrints calledPrints chunksIn
+unopened-kind kind.Farm ns = refl
+unopened-kind kind.Job ns = refl
+unopened-kind kind.Clock ns = refl
+unopened-kind kind.Account ns = refl
+unopened-kind kind.Unreadable ns = refl
+
+unopened-chunks : (l : List ℕ) → chunksIn (linePrints unopened l) ≡ []
+unfolding linePrints chunksIn
+unopened-chunks l = go (leb (length l) longest) (readable l)
+  where
+    go : (a b : Bool) → chunksIn (cond a (cond b (recordedPrints unopened (lineKind l) (numbersOf l)) unreadPrints) unreadPrints) ≡ []
+    go true true = unopened-kind (lineKind l) (numbersOf l)
+    go true false = refl
+    go false b = refl
+
+stays-chunks : (ls : List (List ℕ)) → All Stays ls → chunksIn (prints unopened ls) ≡ []
+unfolding prints chunksIn
+stays-chunks [] h = refl
+stays-chunks (l ∷ ls) h =
+    chunks-append (linePrints unopened l) (prints (answered unopened l .farm) ls)
+    ∙ ap (λ (xs : List Chunk). xs ++ chunksIn (prints (answered unopened l .farm) ls)) (unopened-chunks l)
+    ∙ ap (λ (g : Farm). chunksIn (prints g ls)) (h .0)
+    ∙ stays-chunks ls (h .1)
+
+open-accepts-none : (n : ℕ) (c : Costs) (al ns : List ℕ) → acceptedOn ns (answer (openSaid n c al) ∷ []) ≡ []
+unfolding acceptedOn openSaid
+open-accepts-none n c al ns = go (between 1 n 64) (costsWithin c) (showsWithin al)
+  where
+    go : (a b d : Bool) → acceptedOn ns (answer (cond {A = Said} a (cond b (cond d (granted Open (n ∷ length al ∷ [])) (refused 3)) (refused 2)) (refused 1)) ∷ []) ≡ []
+    go true true true = refl
+    go true true false = refl
+    go true false d = refl
+    go false b d = refl
+
+unopened-kind-accepts : (k : Kind) (ns : List ℕ) → acceptedOn ns (recordedPrints unopened k ns) ≡ []
+unfolding recordedPrints calledPrints acceptedOn
+unopened-kind-accepts kind.Farm ns = open-accepts-none (getD ns 0 0) (costsIn ns) (drop 5 ns) ns
+unopened-kind-accepts kind.Job ns = refl
+unopened-kind-accepts kind.Clock ns = refl
+unopened-kind-accepts kind.Account ns = refl
+unopened-kind-accepts kind.Unreadable ns = refl
+
+unopened-accepts : (l : List ℕ) → acceptedOn (numbersOf l) (linePrints unopened l) ≡ []
+unfolding linePrints acceptedOn
+unopened-accepts l = go (leb (length l) longest) (readable l)
+  where
+    go : (a b : Bool) → acceptedOn (numbersOf l) (cond a (cond b (recordedPrints unopened (lineKind l) (numbersOf l)) unreadPrints) unreadPrints) ≡ []
+    go true true = unopened-kind-accepts (lineKind l) (numbersOf l)
+    go true false = refl
+    go false b = refl
+
+stays-accepts : (ls : List (List ℕ)) → All Stays ls → acceptedIn unopened ls ≡ []
+unfolding acceptedIn
+stays-accepts [] h = refl
+stays-accepts (l ∷ ls) h =
+    ap (λ (js : List Accepted). js ++ acceptedIn (answered unopened l .farm) ls) (unopened-accepts l)
+    ∙ ap (λ (g : Farm). acceptedIn g ls) (h .0)
+    ∙ stays-accepts ls (h .1)
+
+module _ (before : List (List ℕ)) (l : List ℕ) (h : All Stays before) (o : Opens l) where
+  lines-farm : (after : List (List ℕ)) → farmAfter unopened (before ++ l ∷ after) ≡ run (opening (farmOn l)) (callsIn after) .farm
+  unfolding farmAfter
+  lines-farm after =
+      farm-append unopened before (l ∷ after)
+      ∙ ap (λ (g : Farm). farmAfter g (l ∷ after)) (stays-farm before h)
+      ∙ ap (λ (g : Farm). farmAfter g after) (opens-farm l o)
+      ∙ farm-after (farmOn l) after (opens-opened l o)
+
+  lines-chunks : (after : List (List ℕ)) → chunksIn (prints unopened (before ++ l ∷ after)) ≡ map chunkOf (run (opening (farmOn l)) (callsIn after) .lines)
+  unfolding prints
+  lines-chunks after =
+      ap chunksIn (prints-append unopened before (l ∷ after))
+      ∙ chunks-append (prints unopened before) (prints (farmAfter unopened before) (l ∷ after))
+      ∙ ap (λ (xs : List Chunk). xs ++ chunksIn (prints (farmAfter unopened before) (l ∷ after))) (stays-chunks before h)
+      ∙ ap (λ (g : Farm). chunksIn (prints g (l ∷ after))) (stays-farm before h)
+      ∙ chunks-append (linePrints unopened l) (prints (answered unopened l .farm) after)
+      ∙ ap (λ (xs : List Chunk). xs ++ chunksIn (prints (answered unopened l .farm) after)) (unopened-chunks l)
+      ∙ ap (λ (g : Farm). chunksIn (prints g after)) (opens-farm l o)
+      ∙ chunks-issued (farmOn l) after (opens-opened l o)
+
+  lines-accepted : (after : List (List ℕ)) → acceptedIn unopened (before ++ l ∷ after) ≡ run (opening (farmOn l)) (callsIn after) .jobs
+  unfolding acceptedIn
+  lines-accepted after =
+      accepted-append unopened before (l ∷ after)
+      ∙ ap (λ (js : List Accepted). js ++ acceptedIn (farmAfter unopened before) (l ∷ after)) (stays-accepts before h)
+      ∙ ap (λ (g : Farm). acceptedIn g (l ∷ after)) (stays-farm before h)
+      ∙ ap (λ (js : List Accepted). js ++ acceptedIn (answered unopened l .farm) after) (unopened-accepts l)
+      ∙ ap (λ (g : Farm). acceptedIn g after) (opens-farm l o)
+      ∙ jobs-accepted (farmOn l) after (opens-opened l o)
+
+  lines-demand : (after : List (List ℕ)) → Demand3 (farmOn l) (callsIn after) (run (opening (farmOn l)) (callsIn after))
+  lines-demand after = demand3 (getD (numbersOf l) 0 0) (costsIn (numbersOf l)) (allowancesOn l) (o .granted) (callsIn after)
+
+  lines-account : (part : List (List ℕ)) (s : ℕ)
+      → accountSaid (run (opening (farmOn l)) (callsIn part) .farm) s ≡ accountOf (allowancesOn l) s (map chunkOf (run (opening (farmOn l)) (callsIn part) .lines))
+  unfolding accountSaid
+  lines-account part s =
+      ap (λ (b : Bool). cond b (cond (between 1 s (w .farm .shows)) said (refused 4)) (refused 11)) (d .passes)
+      ∙ ap (λ (n : ℕ). cond (between 1 s n) said (refused 4)) shows
+      ∙ go (between 1 s (length (allowancesOn l))) refl
+    where
+      w : History
+      w = run (opening (farmOn l)) (callsIn part)
+
+      d : Demand3 (farmOn l) (callsIn part) w
+      d = lines-demand part
+
+      said : Said
+      said = granted Account (s ∷ heldBy (w .farm) s ∷ (heldBy (w .farm) s - allowanceOf (w .farm) s) ∷ [])
+
+      shows : w .farm .shows ≡ length (allowancesOn l)
+      shows = run-keeps (opening (farmOn l)) (callsIn part) .shows ∙ opens-shows l o
+
+      held : between 1 s (length (allowancesOn l)) ≡ true → heldBy (w .farm) s ≡ heldIn s (map chunkOf (w .lines))
+      held e =
+          d .held s (subst (λ (n : ℕ). Between 1 s n) (sym shows) (between-is 1 s (length (allowancesOn l)) e)) ∙ held-printed (farmOn l) (callsIn part) w d s
+
+      allowance : between 1 s (length (allowancesOn l)) ≡ true → allowanceOf (w .farm) s ≡ getD (allowancesOn l) (s - 1) 0
+      allowance e =
+          ap (λ (al : List ℕ). getD al (s - 1) 0) (run-keeps (opening (farmOn l)) (callsIn part) .allowances) ∙ opens-allowance l o s e
+
+      go : (b : Bool) → between 1 s (length (allowancesOn l)) ≡ b
+          → cond b said (refused 4)
+          ≡ cond b (granted Account (s ∷ heldIn s (map chunkOf (w .lines)) ∷ (heldIn s (map chunkOf (w .lines)) - getD (allowancesOn l) (s - 1) 0) ∷ [])) (refused 4)
+      go true e =
+          ap (λ (n : ℕ). granted Account (s ∷ n ∷ (n - allowanceOf (w .farm) s) ∷ [])) (held e)
+          ∙ ap (λ (n : ℕ). granted Account (s ∷ heldIn s (map chunkOf (w .lines)) ∷ (heldIn s (map chunkOf (w .lines)) - n) ∷ [])) (allowance e)
+      go false e = refl
+
+  lines-accounts : (part : List (List ℕ)) (a : List ℕ) (rest : List (List ℕ)) → Reads a kind.Account
+      → prints unopened (before ++ l ∷ (part ++ a ∷ rest))
+      ≡ prints unopened (before ++ l ∷ part)
+      ++ answer (accountOf (allowancesOn l) (getD (numbersOf a) 0 0) (chunksIn (prints unopened (before ++ l ∷ part))))
+      ∷ prints (farmAfter unopened (before ++ l ∷ part)) rest
+  lines-accounts part a rest r =
+      prints-behind unopened before l part a rest
+      ∙ ap (λ (ps : List Print). prints unopened (before ++ l ∷ part) ++ ps) then
+    where
+      g : Farm
+      g = farmAfter unopened (before ++ l ∷ part)
+
+      s : ℕ
+      s = getD (numbersOf a) 0 0
+
+      opened : g .opened ≡ true
+      opened = ap (λ (f : Farm). f .opened) (lines-farm part) ∙ run-opened (opening (farmOn l)) (callsIn part) ∙ opens-opened l o
+
+      said : linePrints g a ≡ answer (accountOf (allowancesOn l) s (chunksIn (prints unopened (before ++ l ∷ part)))) ∷ []
+      said =
+          account-prints g a opened r
+          ∙ ap (λ (x : Said). answer x ∷ [])
+          (ap (λ (f : Farm). accountSaid f s) (lines-farm part) ∙ lines-account part s ∙ ap (accountOf (allowancesOn l) s) (sym (lines-chunks part)))
+
+      then : linePrints g a ++ prints (answered g a .farm) rest ≡ answer (accountOf (allowancesOn l) s (chunksIn (prints unopened (before ++ l ∷ part)))) ∷ prints g rest
+      then =
+          ap (λ (ps : List Print). ps ++ prints (answered g a .farm) rest) said
+          ∙ ap (λ (f : Farm). answer (accountOf (allowancesOn l) s (chunksIn (prints unopened (before ++ l ∷ part)))) ∷ prints f rest) (account-farm g a r)
+
+-- ---- The theorems
+
+-- **Demand 3 of the lines of a day** that leave the farm unopened, then open it, then are any others.
+pub day-demand3 : (before : List (List ℕ)) (l : List ℕ) (after : List (List ℕ)) → All Stays before → Opens l → DayDemand3 before l after
+day-demand3 before l after h o = record {
+  text = answers-text unopened (before ++ l ∷ after);
+  farm = lines-farm before l h o after;
+  chunks = lines-chunks before l h o after;
+  accepted = lines-accepted before l h o after;
+  demand = lines-demand before l h o after;
+  accounts = λ part a rest e r. ap (λ (xs : List (List ℕ)). prints unopened (before ++ l ∷ xs)) e ∙ lines-accounts before l h o part a rest r;
+}
+
+further : (l : List ℕ) (ls : List (List ℕ)) → Stays l → Day ls → Day (l ∷ ls)
+further l ls s (never h k j) = never (s, h) (stays-chunks (l ∷ ls) (s, h)) (stays-accepts (l ∷ ls) (s, h))
+further l ls s (opens before x after e h o d) = opens (l ∷ before) x after (ap (λ (xs : List (List ℕ)). l ∷ xs) e) (s, h) o (day-demand3 (l ∷ before) x after (s, h) o)
+
+-- All lists of lines are such lines, or none of them opens a farm.
+pub lines-day : (ls : List (List ℕ)) → Day ls
+lines-day [] = never tt (stays-chunks [] tt) (stays-accepts [] tt)
+lines-day (l ∷ ls) = ⊎-elim (λ s. further l ls s (lines-day ls)) (λ o. opens [] l ls refl tt o (day-demand3 [] l ls tt o)) (stays-or-opens l)
+
+-- **Demand 3 of every input**: what the program prints for it is the texts of its printed lines, of which `Day` holds.
+pub printed-day : (bs : List ℕ) → (dayText bs ≡ printTexts (prints unopened (linesIn bs))) × Day (linesIn bs)
+printed-day bs = (answers-text unopened (linesIn bs), lines-day (linesIn bs))
