@@ -16,5 +16,4 @@ pub mod Lifecycles
 pub mod Demand1
 pub mod Demand2
 pub mod Demand3
-pub mod Listing
 pub mod Cases

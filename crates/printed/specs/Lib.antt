@@ -4,3 +4,4 @@ pub mod Model
 pub mod Day
 pub mod DayCalls
 pub mod DayDemand3
+pub mod ListingText
