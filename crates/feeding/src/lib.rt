@@ -1,18 +1,21 @@
 // Days that come through a file descriptor: read in blocks, answered by the crate protocol, and the answers written. A failed read or
 // write ends a day, and says so in one line on standard error.
+ghost use lib.ListN.{length};
 ghost use Rattle.feeding.specs.Fed.{Answers};
 use libc::STDERR_FILENO;
 use protocol::Session;
 
-// A day so far, and whether its answers could be written.
+// A day so far, the place in the block up to which it was fed, and whether its answers could be written.
 pub struct Sent {
     pub session: Session,
+    pub next: usize,
     pub ok: bool,
 }
 
-// Answers a block. The answers are written at its end, and before it where `out` is full.
+// Answers a block. The answers are handed to the output at its end, and before it where `out` is full. It gives up only behind answers that
+// could not be written.
 fn answer_all(output: i32, session: Session, block: &[u8], out: &mut [u8]) -> Sent
-    ensures { λ r. ⌜ Answers session (now (block .entry)) r ⌝ }
+    ensures { λ r. ⌜ Answers session (now (block .entry)) (length (now (out .entry))) r ⌝ }
 {
     let mut day = session;
     let mut next = 0;
@@ -21,6 +24,7 @@ fn answer_all(output: i32, session: Session, block: &[u8], out: &mut [u8]) -> Se
         if turns == 0 {
             return Sent {
                 session: day,
+                next,
                 ok: false,
             };
         }
@@ -32,12 +36,14 @@ fn answer_all(output: i32, session: Session, block: &[u8], out: &mut [u8]) -> Se
         if !io::write_all(output, &out[0..written]) {
             return Sent {
                 session: day,
+                next,
                 ok: false,
             };
         }
     }
     Sent {
         session: day,
+        next,
         ok: true,
     }
 }

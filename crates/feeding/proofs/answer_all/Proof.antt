@@ -1,29 +1,32 @@
 -- `feeding::answer_all` meets its contract: the block up to `next` has been fed.
 use borrow.Author.Needs.{needs}
-use mathlib.Core.Path.{_≡_, refl, _∙_}
+use mathlib.Core.Path.{_≡_, refl, sym, _∙_}
 use mathlib.Core.Bool.{false≢true}
-use Prim.Native.Nat.{_≤_}
+use Prim.Native.Nat.{_≤_, _<_}
 use native.Mathlib.Omega.{arith}
 use lib.ListN.{length}
 use Rattle.protocol.specs.Feeding.{stretch}
-use Rattle.feeding.specs.Fed.{Leaves, fed-start, fed-more, fed-all}
+use Rattle.protocol.specs.Promises.{largest}
+use Rattle.feeding.specs.Fed.{Leaves, fed-start, fed-more, took-some}
 use Rattle.feeding.proofs.answer_all.Statement.{statement}
 use Rattle.feeding.proofs.answer_all.Tie as tie
 
 abbrev Inv-loop : tie.InvT-loop
-Inv-loop output block out₀ day₀ next₀ turns₀ out day next turns = (length out ≡ length out₀) × Leaves day₀ (stretch 0 next block) day
+Inv-loop output block out₀ day₀ next₀ turns₀ out day next turns = (length out ≡ length out₀) × Leaves day₀ (stretch 0 next block) day × (turns < 18446744073709551615 → largest ≤ length out₀ → 0 < next)
 
 abbrev μ-loop : tie.MeasureT-loop
 μ-loop output block out₀ day₀ next₀ turns₀ out day next turns = turns
 
 loop-holds : tie.Need-loop-holds Inv-loop μ-loop
-loop-holds c = let a = c .before .before .args in (refl, fed-start (a .session) (a .block .now))
+loop-holds c = let a = c .before .before .args in (refl, fed-start (a .session) (a .block .now), λ h room. absurd (omega arith))
 
 same-length : tie.Need-same-length Inv-loop μ-loop
 same-length c = search needs
 
 returns : tie.Need-returns Inv-loop μ-loop
-returns c = record { day = λ e. absurd (false≢true e) }
+returns c =
+    let l = c .before .before .loop in
+    record { day = l .inv .1; all = λ e. absurd (false≢true e); some = λ e room. l .inv .2 (omega (arith, c .if1 .taken)) room }
 
 sub-turns : tie.Need-sub-turns Inv-loop μ-loop
 sub-turns c = search needs
@@ -52,7 +55,14 @@ same-length-2 : tie.Need-same-length-2 Inv-loop μ-loop
 same-length-2 c = search needs
 
 returns-2 : tie.Need-returns-2 Inv-loop μ-loop
-returns-2 c = record { day = λ e. absurd (false≢true e) }
+returns-2 c =
+    let b = c .before .before .before .before .before .before .before .answer-block in
+    let l = c .before .before .before .before .before .before .before .before .before .before .before .loop in
+    record {
+      day = fed-more _ _ _ (l .next) _ _ (b .result) (l .inv .1) (b .ensures);
+      all = λ e. absurd (false≢true e);
+      some = λ e room. omega (arith, took-some _ _ (l .next) _ _ (b .result) (b .ensures) (c .before .before .before .before .before .before .before .before .before .before .loop-test .taken) (omega (arith, l .inv .0)));
+    }
 
 loop-less : tie.Need-loop-less Inv-loop μ-loop
 loop-less c = search needs
@@ -60,8 +70,11 @@ loop-less c = search needs
 loop-again : tie.Need-loop-again Inv-loop μ-loop
 loop-again c =
     let b = c .before .before .before .before .before .before .before .answer-block in
-    let l = c .before .before .before .before .before .before .before .before .before .before .before .loop in
-    (b .kept .1 .1 .1 .0 ∙ l .inv .0, fed-more _ _ _ (l .next) _ _ (b .result) (l .inv .1) (b .ensures))
+    let l = c .before .before .before .before .before .before .before .before .before .before .before .loop in (
+      b .kept .1 .1 .1 .0 ∙ l .inv .0,
+      fed-more _ _ _ (l .next) _ _ (b .result) (l .inv .1) (b .ensures),
+      λ h room. omega (arith, took-some _ _ (l .next) _ _ (b .result) (b .ensures) (c .before .before .before .before .before .before .before .before .before .before .loop-test .taken) (omega (arith, l .inv .0))),
+    )
 
 same-length-3 : tie.Need-same-length-3 Inv-loop μ-loop
 same-length-3 c = search needs
@@ -69,7 +82,7 @@ same-length-3 c = search needs
 returns-3 : tie.Need-returns-3 Inv-loop μ-loop
 returns-3 c =
     let l = c .before .loop in
-    record { day = λ _. fed-all _ _ _ (l .next) (c .loop-test .left) (l .inv .1) }
+    record { day = l .inv .1; all = λ _. c .loop-test .left; some = λ e. absurd (false≢true (sym e)) }
 
 pub answer-all-spec : {M : Type 1} → statement M
 answer-all-spec =
