@@ -16,4 +16,5 @@ pub mod Lifecycles
 pub mod Demand1
 pub mod Demand2
 pub mod Demand3
+pub mod Reached
 pub mod Cases
