@@ -208,17 +208,6 @@ pub number-next : (n i : ℕ) (js : List Job) → i < length js → ofNumber n (
 unfolding ofNumber
 number-next n i js h = rw (add-one i, drop-cons js i noJob h)
 
--- a farm and the jobs of a plan that books them all
-pub record Accepting (f : Farm) (js : List Job) : Type 0 where
-  pub waiting : f .waiting < 128
-  pub used : f .used < greatest
-  pub sends : All (Sends (f .costs)) (take (f .waiting + 1) js)
-
--- the reply to an accepted offer
-pub record Accepts (f : Farm) (js : List Job) (r : Reply) : Type 0 where
-  pub says : said (r .answer) ≡ yesOf (f .costs) (ofNumber (f .used + 1) (take (f .waiting + 1) js))
-  pub hands : r .farm ≡ nextFarm f js
-
 -- The empty job has no chunks to work out.
 pub empty-sends : (c : Costs) → Sends c emptyJob
 unfolding bookingOf finish
@@ -233,13 +222,9 @@ module _ (f : Farm) (j : Job) (o : Offered f j) (sized : length (f .free) ≡ 64
       sym (perm-length (by-deadline-perm (waitingOf f ++ j ∷ []))) ∙ length-append (waitingOf f) (j ∷ []) ∙ ap (λ (x : ℕ). x + 1) (length-take-le (f .waiting) (f .jobs) (omega (arith, o .waiting))) in
       rw (p .plans yes′) (take-at (plan (termsOf f) (busyOf f) q) (drop (f .waiting + 1) (f .jobs)) (f .waiting + 1) (plan-length (termsOf f) (busyOf f) q ∙ l))
 
-  pub accepting : f .used < greatest → Accepting f out
-  accepting u =
+  pub plan-sent : All (Sends (f .costs)) (take (f .waiting + 1) out)
+  plan-sent =
       let r = walk-ready f j o in
       let g = passes-within f (o .passes) in
       let best = walk-best (termsOf f) (busyOf f) (byDeadline (waitingOf f ++ j ∷ [])) r (omega (arith, g .nodes .1)) (sym (p .books) ∙ yes′) in
-      record {
-        waiting = o .waiting;
-        used = u;
-        sends = rw plan-jobs (plan-sends (termsOf f) (busyOf f) (byDeadline (waitingOf f ++ j ∷ [])) (g .nodes .1) sized (all-map (λ x a. a .1) (byDeadline (waitingOf f ++ j ∷ [])) (r .jobs)) best);
-      }
+      rw plan-jobs (plan-sends (termsOf f) (busyOf f) (byDeadline (waitingOf f ++ j ∷ [])) (g .nodes .1) sized (all-map (λ x a. a .1) (byDeadline (waitingOf f ++ j ∷ [])) (r .jobs)) best)

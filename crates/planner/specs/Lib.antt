@@ -4,5 +4,6 @@ pub mod Passes
 pub mod PassesSteps
 pub mod Calls
 pub mod CallsSteps
+pub mod OfferSteps
 pub mod Clock
 pub mod ClockSteps

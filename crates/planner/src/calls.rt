@@ -1,35 +1,27 @@
-// The calls on a farm.
+// Opening a farm, and a show's account.
+ghost use mathlib.Core.Bool.{true};
 ghost use mathlib.Core.Path.{_≡_};
 ghost use Prim.Native.Nat.{_-_, _≤_};
 ghost use mathlib.Core.List.{[], _∷_, _++_};
-ghost use lib.ListN.{length, getD, take, replicate};
-ghost use Rattle.planner.specs.CallsSteps.{Offered, PlanWith, Accepting, Accepts};
-ghost use Rattle.booking.specs.Model.{bookingOf};
+ghost use lib.ListN.{length, getD, replicate};
 ghost use Rattle.planner.specs.Model.{emptyJob};
-ghost use Rattle.planner.specs.Calls.{Account, said, granted, Replies, unopened, openSaid, openFarm, accountSaid, ofNumber, offerSaid, offerFarm};
+ghost use Rattle.planner.specs.Passes.{passesOf};
+ghost use Rattle.planner.specs.Calls.{Account, said, granted, Replies, unopened, openSaid, openFarm, accountSaid};
 use crate::Answer;
 use crate::Farm;
 use crate::Question;
 use crate::Reply;
 use crate::passing::passes;
-use crate::table::deadline_within;
-use crate::table::place_left;
 use booking::Booking;
 use limits::all_at_most;
 use limits::between;
 use limits::costs_within;
 use numbers::less;
 use shares::Costs;
-use walk::Busy;
 use walk::Job;
-use walk::Plan;
-use walk::Terms;
-use walk::by_deadline;
-use walk::finish_of;
-use walk::walked;
 
 // The empty job, which the array of waiting jobs is filled with.
-fn empty_job() -> Job
+pub fn empty_job() -> Job
     ensures { λ r. ⌜ r ≡ emptyJob ⌝ }
 {
     let booking = Booking {
@@ -145,34 +137,6 @@ impl Farm {
         }
     }
 
-    // An offer: questions 11, 4, 5, 6, 7 and 8 in that order.
-    pub fn offer(self, show: u64, size: u64, deadline: u64) -> Reply
-        ensures { λ r. ⌜ Replies r (offerSaid self show size deadline) (offerFarm self show size deadline) ⌝ }
-    {
-        if !passes(self) {
-            return refused(self, Question::Farm);
-        }
-        if !between(1, show, self.shows as u64) {
-            return refused(self, Question::Show);
-        }
-        if !between(1, size, 1000000) {
-            return refused(self, Question::Size);
-        }
-        if !deadline_within(self.clock, deadline) {
-            return refused(self, Question::Deadline);
-        }
-        if !place_left(self.waiting, self.used) {
-            return refused(self, Question::Queue);
-        }
-        let job = new_job(self.used + 1, show, size as u32, deadline);
-        let plan = walk_with(self, job);
-        if !plan.ok {
-            return refused(self, Question::Walk);
-        }
-        let jobs = plan.jobs;
-        accepted(self, jobs)
-    }
-
     // What a show has held, and what it is charged: the held ticks above its allowance.
     pub fn account(self, show: u64) -> Reply
         ensures { λ r. ⌜ Replies r (accountSaid self show) self ⌝ }
@@ -190,6 +154,14 @@ impl Farm {
         if !passes(self) {
             return Answer::No(Question::Farm);
         }
+        self.account_unchecked(show)
+    }
+
+    // The same of a farm that passes question 11: question 4.
+    pub fn account_unchecked(self, show: u64) -> Answer
+        requires { ⌜ passesOf self ≡ true ⌝ }
+        ensures { λ r. ⌜ said r ≡ accountSaid self show ⌝ }
+    {
         let shows = self.shows;
         if !between(1, show, shows as u64) {
             return Answer::No(Question::Show);
@@ -197,71 +169,6 @@ impl Farm {
         let held = self.held;
         let allowances = self.allowances;
         columns(held, allowances, show)
-    }
-}
-
-// The job of a number among the first `count`; the empty job where there is none.
-fn of_number(jobs: [Job; 128], count: usize, number: u64) -> Job
-    requires { ⌜ count ≤ 128 ⌝ }
-    ensures { λ r. ⌜ r ≡ ofNumber number (take count jobs) ⌝ }
-{
-    let mut i = 0;
-    while i < count {
-        let job = jobs[i];
-        if job.number == number {
-            return job;
-        }
-        i += 1;
-    }
-    empty_job()
-}
-
-// The walk of the waiting jobs and a new one.
-fn walk_with(farm: Farm, job: Job) -> Plan
-    requires { ⌜ Offered farm job ⌝ }
-    ensures { λ r. ⌜ PlanWith farm job (r .ok) (r .jobs) ⌝ }
-{
-    let waiting = farm.waiting;
-    let mut jobs = farm.jobs;
-    jobs[waiting] = job;
-    let ordered = by_deadline(jobs, waiting + 1);
-    let costs = farm.costs;
-    let terms = Terms {
-        costs,
-        nodes: farm.nodes,
-        clock: farm.clock,
-    };
-    let free = farm.free;
-    let busy = Busy {
-        link: farm.link,
-        free,
-    };
-    walked(terms, busy, ordered, waiting + 1)
-}
-
-// The reply to an accepted offer: the plan replaces the old one.
-fn accepted(farm: Farm, jobs: [Job; 128]) -> Reply
-    requires { ⌜ Accepting farm jobs ⌝ }
-    ensures { λ r. ⌜ Accepts farm jobs r ⌝ }
-{
-    let number = farm.used + 1;
-    let count = farm.waiting + 1;
-    let job = of_number(jobs, count, number);
-    let costs = farm.costs;
-    let finish = finish_of(costs, job);
-    let booking = job.booking;
-    let mut next = farm;
-    next.used = number;
-    next.waiting = count;
-    next.jobs = jobs;
-    Reply {
-        answer: Answer::Yes {
-            job: job.number,
-            start: booking.start,
-            finish,
-            nodes: booking.count as u64,
-        },
-        farm: next,
     }
 }
 
@@ -273,16 +180,4 @@ pub fn refused(farm: Farm, question: Question) -> Reply
         answer: Answer::No(question),
         farm,
     }
-}
-
-// The job that is offered, not booked yet.
-fn new_job(number: u64, show: u64, size: u32, deadline: u64) -> Job
-    ensures { λ r. ⌜ r ≡ record { number = number; show = show; size = size; deadline = deadline; booking = bookingOf 0 [] [] } ⌝ }
-{
-    let mut job = empty_job();
-    job.number = number;
-    job.show = show;
-    job.size = size;
-    job.deadline = deadline;
-    job
 }

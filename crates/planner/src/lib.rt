@@ -2,6 +2,7 @@
 // one back. What each call means is in specs/Calls.antt and specs/Clock.antt.
 mod calls;
 mod clock;
+mod offers;
 mod passing;
 mod table;
 
@@ -72,6 +73,13 @@ pub enum Answer {
 pub struct Reply {
     pub answer: Answer,
     pub farm: Farm,
+}
+
+// What an offer comes to: its answer and, where it is accepted, the jobs that wait then.
+pub struct Decision {
+    pub accepted: bool,
+    pub answer: Answer,
+    pub jobs: [Job; 128],
 }
 
 // A reply, with the lent memory by value.

@@ -1,4 +1,4 @@
--- `planner::calls::of_number` meets its contract: none of the jobs passed has the number.
+-- `planner::offers::of_number` meets its contract: none of the jobs passed has the number.
 use mathlib.Core.Path.{_≡_, refl, sym, _∙_}
 use Prim.Native.Nat.{_-_, _≤_}
 use native.Mathlib.Omega.{arith}
@@ -9,8 +9,8 @@ use Rattle.planner.specs.Model.{noJob}
 use Rattle.planner.specs.Calls.{ofNumber}
 use Rattle.planner.specs.CallsSteps.{number-next}
 use borrow.Author.Needs.{needs}
-use Rattle.planner.proofs.calls.of_number.Statement.{statement}
-use Rattle.planner.proofs.calls.of_number.Tie as tie
+use Rattle.planner.proofs.offers.of_number.Statement.{statement}
+use Rattle.planner.proofs.offers.of_number.Tie as tie
 
 abbrev Inv-loop : tie.InvT-loop
 Inv-loop count number jobs i₀ i = (i ≤ count) × (ofNumber number (take count jobs) ≡ ofNumber number (drop i (take count jobs)))

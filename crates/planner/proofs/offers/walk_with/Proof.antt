@@ -1,12 +1,12 @@
--- `planner::calls::walk_with` meets its contract: what is walked is the waiting jobs and the new one by deadline.
+-- `planner::offers::walk_with` meets its contract: what is walked is the waiting jobs and the new one by deadline.
 use mathlib.Core.Path.{ap, _∙_}
 use native.Mathlib.Omega.{arith}
 use Rattle.planner.specs.Model.{termsOf, busyOf, booksAll}
 use Rattle.planner.proofs.Sizes.{jobs-length}
 use Rattle.planner.specs.CallsSteps.{ordered-is, walk-ready}
 use borrow.Author.Needs.{needs}
-use Rattle.planner.proofs.calls.walk_with.Statement.{statement}
-use Rattle.planner.proofs.calls.walk_with.Tie as tie
+use Rattle.planner.proofs.offers.walk_with.Statement.{statement}
+use Rattle.planner.proofs.offers.walk_with.Tie as tie
 
 mul-jobs : tie.Need-mul-jobs
 mul-jobs c = search needs

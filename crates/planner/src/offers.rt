@@ -1,0 +1,184 @@
+// An offer: its questions, the walk of the waiting jobs and the new one, and what it is told.
+ghost use mathlib.Core.Bool.{true};
+ghost use mathlib.Core.List.{[]};
+ghost use mathlib.Core.Path.{_≡_};
+ghost use Prim.Native.Nat.{_≤_};
+ghost use lib.ListN.{take};
+ghost use Rattle.booking.specs.Model.{bookingOf};
+ghost use Rattle.walk.specs.Chunks.{Sends};
+ghost use Rattle.planner.specs.Passes.{passesOf};
+ghost use Rattle.planner.specs.Calls.{said, Replies, ofNumber, yesOf, offerAsked, offerSaid, offerFarm};
+ghost use Rattle.planner.specs.CallsSteps.{Offered, PlanWith};
+ghost use Rattle.planner.specs.OfferSteps.{askedOf, Planned, Decides};
+use crate::Answer;
+use crate::Decision;
+use crate::Farm;
+use crate::Question;
+use crate::Reply;
+use crate::calls::empty_job;
+use crate::calls::refused;
+use crate::passing::passes;
+use crate::table::deadline_within;
+use crate::table::place_left;
+use limits::between;
+use shares::Costs;
+use walk::Busy;
+use walk::Job;
+use walk::Plan;
+use walk::Terms;
+use walk::by_deadline;
+use walk::finish_of;
+use walk::walked;
+
+// The first question that is answered no, if any is.
+enum Asked {
+    Yes,
+    No(Question),
+}
+
+// The job that is offered, not booked yet.
+fn new_job(number: u64, show: u64, size: u32, deadline: u64) -> Job
+    ensures { λ r. ⌜ r ≡ record { number = number; show = show; size = size; deadline = deadline; booking = bookingOf 0 [] [] } ⌝ }
+{
+    let mut job = empty_job();
+    job.number = number;
+    job.show = show;
+    job.size = size;
+    job.deadline = deadline;
+    job
+}
+
+// The job of a number among the first `count`; the empty job where there is none.
+fn of_number(jobs: [Job; 128], count: usize, number: u64) -> Job
+    requires { ⌜ count ≤ 128 ⌝ }
+    ensures { λ r. ⌜ r ≡ ofNumber number (take count jobs) ⌝ }
+{
+    let mut i = 0;
+    while i < count {
+        let job = jobs[i];
+        if job.number == number {
+            return job;
+        }
+        i += 1;
+    }
+    empty_job()
+}
+
+// The walk of the waiting jobs and a new one.
+fn walk_with(farm: Farm, job: Job) -> Plan
+    requires { ⌜ Offered farm job ⌝ }
+    ensures { λ r. ⌜ PlanWith farm job (r .ok) (r .jobs) ⌝ }
+{
+    let waiting = farm.waiting;
+    let mut jobs = farm.jobs;
+    jobs[waiting] = job;
+    let ordered = by_deadline(jobs, waiting + 1);
+    let costs = farm.costs;
+    let terms = Terms {
+        costs,
+        nodes: farm.nodes,
+        clock: farm.clock,
+    };
+    let free = farm.free;
+    let busy = Busy {
+        link: farm.link,
+        free,
+    };
+    walked(terms, busy, ordered, waiting + 1)
+}
+
+// The answer to an accepted offer.
+fn yes(costs: Costs, job: Job) -> Answer
+    requires { ⌜ Sends costs job ⌝ }
+    ensures { λ r. ⌜ said r ≡ yesOf costs job ⌝ }
+{
+    let finish = finish_of(costs, job);
+    let booking = job.booking;
+    Answer::Yes {
+        job: job.number,
+        start: booking.start,
+        finish,
+        nodes: booking.count as u64,
+    }
+}
+
+// Question 8: whether the walk books every waiting job and the new one, and the jobs with their bookings.
+fn planned(farm: Farm, job: Job) -> Decision
+    requires { ⌜ Offered farm job ⌝ }
+    ensures { λ r. ⌜ Planned farm job r ⌝ }
+{
+    let plan = walk_with(farm, job);
+    let jobs = plan.jobs;
+    if !plan.ok {
+        return Decision {
+            accepted: false,
+            answer: Answer::No(Question::Walk),
+            jobs,
+        };
+    }
+    let new = of_number(jobs, farm.waiting + 1, job.number);
+    Decision {
+        accepted: true,
+        answer: yes(farm.costs, new),
+        jobs,
+    }
+}
+
+// Questions 4, 5, 6 and 7 in that order.
+fn ask(farm: Farm, show: u64, size: u64, deadline: u64) -> Asked
+    requires { ⌜ passesOf farm ≡ true ⌝ }
+    ensures { λ r. ⌜ askedOf r ≡ offerAsked farm show size deadline ⌝ }
+{
+    if !between(1, show, farm.shows as u64) {
+        return Asked::No(Question::Show);
+    }
+    if !between(1, size, 1_000_000) {
+        return Asked::No(Question::Size);
+    }
+    if !deadline_within(farm.clock, deadline) {
+        return Asked::No(Question::Deadline);
+    }
+    if !place_left(farm.waiting, farm.used) {
+        return Asked::No(Question::Queue);
+    }
+    Asked::Yes
+}
+
+impl Farm {
+    // An offer: questions 11, 4, 5, 6, 7 and 8 in that order.
+    pub fn offer(self, show: u64, size: u64, deadline: u64) -> Reply
+        ensures { λ r. ⌜ Replies r (offerSaid self show size deadline) (offerFarm self show size deadline) ⌝ }
+    {
+        if !passes(self) {
+            return refused(self, Question::Farm);
+        }
+        let decision = self.offer_unchecked(show, size, deadline);
+        let mut farm = self;
+        if decision.accepted {
+            let jobs = decision.jobs;
+            farm.used += 1;
+            farm.waiting += 1;
+            farm.jobs = jobs;
+        }
+        let answer = decision.answer;
+        Reply { answer, farm }
+    }
+
+    // An offer to a farm that passes question 11: what it is told and, where it is accepted, the jobs that wait then. The caller
+    // keeps the farm, so that a refusal copies nothing back.
+    pub fn offer_unchecked(self, show: u64, size: u64, deadline: u64) -> Decision
+        requires { ⌜ passesOf self ≡ true ⌝ }
+        ensures { λ r. ⌜ Decides self show size deadline r ⌝ }
+    {
+        let jobs = self.jobs;
+        let first = ask(self, show, size, deadline);
+        match first {
+            Asked::No(question) => Decision {
+                accepted: false,
+                answer: Answer::No(question),
+                jobs,
+            },
+            Asked::Yes => planned(self, new_job(self.used + 1, show, size as u32, deadline)),
+        }
+    }
+}
