@@ -11,14 +11,15 @@ use lib.Seq.{take-at}
 use Rattle.lists.specs.Laws.{map-join}
 use Rattle.walk.specs.declared.Chunk.{Chunk}
 use Rattle.planner.specs.declared.Farm.{Farm}
-use Rattle.planner.specs.Calls.{Word, Open, Yes, Clock, Shown, Account, No, Said, granted, heldBy, allowanceOf, refused, openSaid, accountSaid, planned, accepts, withPlan, offerAsked, offerSaid, offerFarm}
+use Rattle.planner.specs.Calls.{Word, Open, Yes, Clock, Shown, Account, No, Said, granted, heldBy, allowanceOf, refused, openSaid, accountSaid, planned, accepts, offerAsked, offerSaid, offerFarm}
 use Rattle.planner.specs.Model.{between}
 use Rattle.planner.specs.Passes.{passesOf}
-use Rattle.planner.specs.Clock.{issued, movedFarm, moveAsked, moveSaid, moveFarm, moveMemory, moveLines}
+use Rattle.planner.specs.Clock.{issued, moveAsked, moveSaid, moveFarm, moveMemory, moveLines}
 use Rattle.reading.specs.declared.Kind.{Kind}
 use Rattle.reading.specs.declared.Kind.the-variants as kind
 use Rattle.reading.specs.Model.{lineKind, readable, numbersOf}
 use Rattle.protocol.specs.Model.{refusal, answerText, chunkText, chunkTexts, Answered, unread, costsIn, farmLine, jobLine, lent, clockLine, accountLine, inTurn, called, recorded, longest, answered}
+use Rattle.demands.specs.Reached.{handed-opened}
 use Rattle.demands.specs.CallLists.{Call, offer, move, handed, withStart, linesBy, Accepted, jobsBy, History, opening, note, run}
 use Rattle.demands.specs.BegunJobs.{chunkOf}
 use Rattle.demands.specs.Invariant.{run-append}
@@ -117,20 +118,6 @@ acceptedIn f [] = []
 acceptedIn f (l ∷ ls) = acceptedOn (numbersOf l) (linePrints f l) ++ acceptedIn (answered f l .farm) ls
 
 -- ---- The farm
-
-handed-opened : (f : Farm) (c : Call) → handed f c .opened ≡ f .opened
-unfolding offerFarm moveFarm
-handed-opened f (offer s z d) = go (eqb (offerAsked f s z d) 0) (accepts f s z d)
-  where
-    go : (a b : Bool) → cond {A = Farm} a (cond b (withPlan f (planned f s z d)) f) f .opened ≡ f .opened
-    go true true = refl
-    go true false = refl
-    go false b = refl
-handed-opened f (move t m) = go (eqb (moveAsked f t (length m)) 0)
-  where
-    go : (a : Bool) → cond {A = Farm} a (movedFarm f t) f .opened ≡ f .opened
-    go true = refl
-    go false = refl
 
 -- A farm stays opened.
 pub run-opened : (w : History) (cs : List Call) → run w cs .farm .opened ≡ w .farm .opened

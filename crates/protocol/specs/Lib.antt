@@ -3,6 +3,7 @@ pub mod Model
 pub mod Feeding
 pub mod Rows
 pub mod Promises
+pub mod Reachable
 pub mod PendingLine
 pub mod AnswerLines
 pub mod CallSteps

@@ -1,0 +1,88 @@
+-- The farm of a day: not opened, or reached by a granted opening and calls. Every line keeps it so, and a call on it need not ask question 11.
+use mathlib.Core.Path.{_≡_, refl, sym, ap, subst, _∙_}
+use mathlib.Core.List.{List, [], _∷_}
+use mathlib.Core.Bool.{Bool, true, false, cond, _&&_, false≢true}
+use Prim.Native.Nat.{ℕ}
+use lib.Dec.{leb, eqb}
+use lib.ListN.{length, getD, replicate, length-replicate}
+use Rattle.shares.specs.declared.Costs.{Costs}
+use Rattle.walk.specs.declared.Chunk.{Chunk}
+use Rattle.planner.specs.declared.Farm.{Farm}
+use Rattle.planner.specs.Model.{between, costsWithin}
+use Rattle.planner.specs.Passes.{passesOf}
+use Rattle.planner.specs.Calls.{unopened, openedWith, showsWithin, openSaid, openFarm, offerFarm}
+use Rattle.planner.specs.Clock.{moveFarm}
+use Rattle.demands.specs.CallLists.{Call, offer, move, handed}
+use Rattle.demands.specs.Reached.{Reached, reached-opening, reached-call, handed-opened, reached-passes}
+use Rattle.text.specs.Model.{newline}
+use Rattle.reading.specs.declared.Kind.{Kind}
+use Rattle.reading.specs.declared.Kind.the-variants as kind
+use Rattle.reading.specs.Model.{lineKind, readable, numbersOf}
+use Rattle.protocol.specs.Model.{Answered, unread, costsIn, farmLine, jobLine, lent, clockLine, accountLine, inTurn, called, recorded, longest, answered, Pending, part, long, ended, kept, Fed, behind, feed}
+
+-- not opened, or reached by an opening and calls
+abbrev pub Reachable : Farm → Type 0
+Reachable f = f .opened ≡ true → Reached f
+
+-- Once opened it passes question 11.
+pub reachable-passes : (f : Farm) → Reachable f → f .opened ≡ true → passesOf f ≡ true
+reachable-passes f r o = reached-passes f (r o)
+
+-- An opening hands back a farm that it reached, or one that is not opened.
+opening-reachable : (n : ℕ) (c : Costs) (al : List ℕ) → Reachable (openFarm n c al)
+unfolding openSaid openFarm
+opening-reachable n c al = go (between 1 n 64) (costsWithin c) (showsWithin al) refl refl refl
+  where
+    go : (a b d : Bool) → between 1 n 64 ≡ a → costsWithin c ≡ b → showsWithin al ≡ d → Reachable (openFarm n c al)
+    go true true true e f g = λ o. reached-opening n c al (rw (e, f, g))
+    go true true false e f g = rw (e, f, g) (λ o. absurd (false≢true o))
+    go true false d e f g = rw (e, f) (λ o. absurd (false≢true o))
+    go false b d e f g = rw e (λ o. absurd (false≢true o))
+
+-- A call keeps it so.
+pub call-reachable : (f : Farm) (c : Call) → Reachable f → Reachable (handed f c)
+call-reachable f c r o = reached-call f c (r (sym (handed-opened f c) ∙ o))
+
+noChunk : Chunk
+noChunk = record { job = 0; show = 0; node = 0; units = 0; start = 0; sent = 0; finish = 0 }
+
+pub offer-reachable : (f : Farm) (s z d : ℕ) → Reachable f → Reachable (offerFarm f s z d)
+offer-reachable f s z d r = call-reachable f (offer s z d) r
+
+pub move-reachable : (f : Farm) (t n : ℕ) → Reachable f → Reachable (moveFarm f t n)
+move-reachable f t n r = subst (λ (k : ℕ). Reachable (moveFarm f t k)) (length-replicate n noChunk) (call-reachable f (move t (replicate n noChunk)) r)
+
+called-reachable : (f : Farm) (k : Kind) (ns al : List ℕ) → Reachable f → Reachable (called f k ns al .farm)
+unfolding called farmLine jobLine clockLine accountLine
+called-reachable f kind.Farm ns al r = opening-reachable (getD ns 0 0) (costsIn ns) al
+called-reachable f kind.Job ns al r = offer-reachable f (getD ns 0 0) (getD ns 1 0) (getD ns 2 0) r
+called-reachable f kind.Clock ns al r = move-reachable f (getD ns 0 0) lent r
+called-reachable f kind.Account ns al r = r
+called-reachable f kind.Unreadable ns al r = r
+
+choice-reachable : (b : Bool) (x y : Answered) → Reachable (x .farm) → Reachable (y .farm) → Reachable (cond b x y .farm)
+choice-reachable true x y p q = p
+choice-reachable false x y p q = q
+
+-- A line keeps it so.
+pub answered-reachable : (f : Farm) (l : List ℕ) → Reachable f → Reachable (answered f l .farm)
+unfolding answered recorded
+answered-reachable f l r =
+    choice-reachable (leb (length l) longest) _ (unread f)
+    (choice-reachable (readable l) _ (unread f) (choice-reachable (inTurn (lineKind l) (f .opened)) _ (unread f) (called-reachable f (lineKind l) (numbersOf l) _ r) r) r) r
+
+ended-reachable : (f : Farm) (p : Pending) → Reachable f → Reachable (ended f p .farm)
+ended-reachable f (part l) r = answered-reachable f l r
+ended-reachable f long r = r
+
+fed-reachable : (b : Bool) (x y : Fed) → Reachable (x .farm) → Reachable (y .farm) → Reachable (cond b x y .farm)
+fed-reachable true x y p q = p
+fed-reachable false x y p q = q
+
+-- So do the bytes of a block.
+pub feed-reachable : (f : Farm) (p : Pending) (bs : List ℕ) → Reachable f → Reachable (feed f p bs .farm)
+unfolding feed
+feed-reachable f p [] r = r
+feed-reachable f p (b ∷ bs) r =
+    fed-reachable (eqb b newline) (behind (ended f p .text) (feed (ended f p .farm) (part []) bs)) (feed f (kept p b) bs)
+    (feed-reachable (ended f p .farm) (part []) bs (ended-reachable f p r)) (feed-reachable f (kept p b) bs r)
