@@ -98,6 +98,24 @@ lines-front f t m h = rw h (go (eqb (moveAsked f t lent) 0))
     go true = take-at (issued f t) (drop (length (issued f t)) m) (length (issued f t)) refl
     go false = refl
 
+-- the lines of records that are rows of numbers
+unfoldable pub rowTexts : List (List ℕ) → List ℕ
+rowTexts [] = []
+rowTexts (x ∷ xs) = lineText word.Chunk x ++ rowTexts xs
+
+row-snoc : (xs : List (List ℕ)) (x : List ℕ) → rowTexts (xs ++ x ∷ []) ≡ rowTexts xs ++ lineText word.Chunk x
+unfolding rowTexts
+row-snoc [] x = append-nil (lineText word.Chunk x)
+row-snoc (y ∷ xs) x = ap (λ (l : List ℕ). lineText word.Chunk y ++ l) (row-snoc xs x) ∙ sym (append-assoc (lineText word.Chunk y) (rowTexts xs) (lineText word.Chunk x))
+
+-- One line more is written.
+pub row-next : (xs : List (List ℕ)) (i : ℕ) (l : Line) {at : ℕ} {e x y : List ℕ} {r s : ℕ} → i < length xs → r ≤ length e → textOf l ≡ lineText word.Chunk (getD xs i [])
+    → WroteWithin (i * 160) (rowTexts (take i xs)) at e x r → WroteWithin 160 (textOf l) r x y s → WroteWithin ((i + 1) * 160) (rowTexts (take (i + 1) xs)) at e y s
+row-next xs i l h k t a b =
+    let more : rowTexts (take i xs) ++ textOf l ≡ rowTexts (take (i + 1) xs) =
+    ap (λ (z : List ℕ). rowTexts (take i xs) ++ z) t ∙ sym (rw (add-one i, take-suc xs i [] h) (row-snoc (take i xs) (getD xs i []))) in
+    record { wrote = wrote-same more (wrote-join (a .wrote) k (b .wrote)); within = omega (arith, a .within, b .within) }
+
 -- one chunk line more
 texts-snoc : (xs : List Chunk) (x : Chunk) → chunkTexts (xs ++ x ∷ []) ≡ chunkTexts xs ++ chunkText x
 unfolding chunkTexts

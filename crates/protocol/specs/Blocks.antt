@@ -19,6 +19,7 @@ use Rattle.protocol.specs.Model.{Answered, Pending, part, long, ended, F
 use Rattle.protocol.specs.Feeding.{stretch, keptAll, fed-line, fed-rest}
 use Rattle.protocol.specs.Rows.{pendingOf}
 use Rattle.protocol.specs.Promises.{Took, largest, endText}
+use Rattle.protocol.specs.Reachable.{Reachable, feed-reachable}
 
 module _ (f : Farm) (r : Rest) (block : List ℕ) (from : ℕ) (entry : List ℕ) where
   -- what the bytes up to a place come to
@@ -53,6 +54,10 @@ module _ {f : Farm} {r : Rest} {block : List ℕ} {from : ℕ} {entry : List ℕ
   -- what the bytes so far come to
   abbrev soFar : Fed
   soFar = upTo f r block from entry next
+
+  -- a farm that was reachable still is
+  pub day-reachable : Reachable f → Reachable farm
+  day-reachable h = subst Reachable (g .farms) (feed-reachable f (pendingOf r) (stretch from next block) h)
 
   -- the block ends, or there is no room
   pub day-took : (next < length block → length entry < at + largest) → Took (record { farm = f; rest = r }) block from entry out (record { session = record { farm = farm; rest = rest }; next = next; written = at })

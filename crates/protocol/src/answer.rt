@@ -5,7 +5,9 @@ ghost use lib.ListN.{length, take};
 ghost use Rattle.planner.specs.Calls.{said, numberOf};
 ghost use Rattle.text.specs.Writing.{WroteWithin};
 ghost use Rattle.protocol.specs.Model.{answerText, refusal, chunkText, chunkTexts};
-ghost use Rattle.protocol.specs.AnswerLines.{lineWith, textOf};
+ghost use Rattle.printing.specs.Model.{lineText};
+ghost use Rattle.printing.specs.declared.Word.the-variants as word;
+ghost use Rattle.protocol.specs.AnswerLines.{lineWith, textOf, rowTexts};
 use planner::Answer;
 use planner::Question;
 use printing::Line;
@@ -131,6 +133,31 @@ pub fn put_chunks(out: &mut [u8], at: usize, chunks: [Chunk; 1024], count: usize
     let mut place = at;
     while i < count {
         place = put(out, place, chunk_line(chunks[i]));
+        i += 1;
+    }
+    place
+}
+
+// The line of a chunk record that is a row of its seven numbers.
+fn row_line(row: [u64; 7]) -> Line
+    ensures { λ r. ⌜ (r .count ≤ 7) × (textOf r ≡ lineText word.Chunk row) ⌝ }
+{
+    Line {
+        word: Word::Chunk,
+        count: 7,
+        numbers: row,
+    }
+}
+
+// Writes the lines of the first `count` records at place `at`, and answers the place behind them.
+pub fn put_rows(out: &mut [u8], at: usize, rows: &[[u64; 7]; 1024], count: usize) -> usize
+    requires { ⌜ (count ≤ 1024) × (count ≤ length (now rows)) × (at + count * 160 ≤ length (now out)) ⌝ }
+    ensures { λ r. ⌜ WroteWithin (count * 160) (rowTexts (take count (now (rows .entry)))) at (now (out .entry)) (now (out .exit)) r ⌝ }
+{
+    let mut i = 0;
+    let mut place = at;
+    while i < count {
+        place = put(out, place, row_line(rows[i]));
         i += 1;
     }
     place

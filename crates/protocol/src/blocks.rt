@@ -7,15 +7,16 @@ ghost use Rattle.text.specs.Writing.{WroteWithin};
 ghost use Rattle.protocol.specs.Model.{part};
 ghost use Rattle.protocol.specs.Rows.{pendingOf};
 ghost use Rattle.protocol.specs.Promises.{Took, endText};
+ghost use Rattle.protocol.specs.Reachable.{Reachable};
 use crate::Progress;
 use crate::Rest;
 use crate::Session;
+use crate::answer::put_answer;
 use crate::answer::put_unread;
 use crate::kept::row_of;
 use crate::kept::with_bytes;
 use crate::step::answer_row;
 use crate::step::in_turn;
-use crate::step::put_account;
 use planner::Farm;
 use reading::Kind;
 use reading::find;
@@ -46,6 +47,7 @@ pub fn start() -> Session
 // Answers the lines of a block from place `from` on, at the front of `out`. It stops at the block's end, where the rest of an
 // unfinished line is kept, or where `out` may not hold the next answer.
 pub fn answer_block(session: Session, block: &[u8], from: usize, out: &mut [u8]) -> Progress
+    requires { ⌜ Reachable (session .farm) ⌝ }
     ensures { λ r. ⌜ Took session (now (block .entry)) from (now (out .entry)) (now (out .exit)) r ⌝ }
 {
     if out.len() < 164000 {
@@ -84,10 +86,21 @@ pub fn answer_block(session: Session, block: &[u8], from: usize, out: &mut [u8])
         if !in_turn(kind, farm.opened) {
             at = put_unread(out, at);
         } else {
+            let numbers = row.numbers;
             match kind {
                 Kind::Account => {
-                    let numbers = row.numbers;
-                    at = put_account(farm, numbers[0], out, at);
+                    at = put_answer(out, at, farm.account_unchecked(numbers[0]));
+                }
+                Kind::Job => {
+                    let decision = farm.offer_unchecked(numbers[0], numbers[1], numbers[2]);
+                    let answer = decision.answer;
+                    at = put_answer(out, at, answer);
+                    if decision.accepted {
+                        let jobs = decision.jobs;
+                        farm.used += 1;
+                        farm.waiting += 1;
+                        farm.jobs = jobs;
+                    }
                 }
                 _ => {
                     let done = answer_row(farm, row, out, at);
@@ -106,6 +119,7 @@ pub fn answer_block(session: Session, block: &[u8], from: usize, out: &mut [u8])
 
 // The end of the input: what is pending is a line if it is not empty. It writes nothing where `out` may not hold the answer.
 pub fn end_of_input(session: Session, out: &mut [u8]) -> usize
+    requires { ⌜ Reachable (session .farm) ⌝ }
     ensures { λ r. ⌜ WroteWithin (length (now (out .entry))) (endText session (length (now (out .entry)))) 0 (now (out .entry)) (now (out .exit)) r ⌝ }
 {
     let rest = session.rest;

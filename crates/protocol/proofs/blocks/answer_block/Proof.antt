@@ -5,9 +5,13 @@ use Prim.Native.Nat.{_+_, _-_}
 use native.Mathlib.Omega.{arith}
 use borrow.Author.Tests.{not-true, not-false}
 use lib.ListN.{length, getD}
-use Rattle.protocol.specs.Model.{ended, unread, accountLine, called}
+use mathlib.Core.Bool.{true}
+use Rattle.text.specs.Writing.{within-same}
+use Rattle.reading.specs.declared.Kind.{Kind}
+use Rattle.protocol.specs.Model.{answerText, inTurn, ended, unread, jobLine, accountLine, called}
+use Rattle.protocol.specs.Reachable.{reachable-passes}
 use Rattle.protocol.specs.Rows.{FarmRow, pendingOf, byRow, calledBy, rest-row, row-farm, row-turn, row-unread}
-use Rattle.protocol.specs.Blocks.{DayAt, day-start, day-took, day-rest, day-line}
+use Rattle.protocol.specs.Blocks.{DayAt, day-start, day-reachable, day-took, day-rest, day-line}
 use Rattle.protocol.proofs.blocks.answer_block.Statement.{statement}
 use Rattle.protocol.proofs.blocks.answer_block.Tie as tie
 
@@ -81,11 +85,19 @@ loop-again c =
 enum-told : tie.Need-enum-told Inv-loop μ-loop
 enum-told c = search needs
 
-array-read-put-account : tie.Need-array-read-put-account Inv-loop μ-loop
-array-read-put-account c = search needs
+array-read-account-unchecked : tie.Need-array-read-account-unchecked Inv-loop μ-loop
+array-read-account-unchecked c = search needs
 
-put-account-requires : tie.Need-put-account-requires Inv-loop μ-loop
-put-account-requires c κs = let g = c .before .before .before .before .before .before .before .before .before .before .before .before .loop .inv .0 .size in omega arith
+account-unchecked-requires : tie.Need-account-unchecked-requires Inv-loop μ-loop
+account-unchecked-requires c κs =
+    let t = c .before .before .before .before .before in
+    let l = t .before .before .before .before .before .before .before .loop in
+    let s = t .before .before .before .before .before .before .before .before .before .before .before .before .before in
+    reachable-passes (l .farm) (day-reachable (l .inv .0) (s .pre))
+    (subst (λ (k : Kind). inTurn k (l .farm .opened) ≡ true) (c .before .enum-told .given .1) (sym (t .in-turn .ensures) ∙ not-false _ (c .before .before .before .before .if4 .left)))
+
+put-answer-requires : tie.Need-put-answer-requires Inv-loop μ-loop
+put-answer-requires c κs = let g = c .before .before .before .before .before .before .before .before .before .before .before .before .before .loop .inv .0 .size in omega arith
 
 loop-less-2 : tie.Need-loop-less-2 Inv-loop μ-loop
 loop-less-2 c = search needs
@@ -93,15 +105,87 @@ loop-less-2 c = search needs
 loop-again-2 : tie.Need-loop-again-2 Inv-loop μ-loop
 unfolding called accountLine
 loop-again-2 c =
-    let t = c .before .before .before .before .before .before .before .before in
+    let t = c .before .before .before .before .before .before .before .before .before in
     let l = t .before .before .before .before .before .before .before .loop in
     let e = t .before .before .before .before .find in
     let w = t .before .before .before .with-bytes in
     let o = t .before .row-of in
-    let p = c .before .before .put-account in
+    let p = c .before .before .put-answer in
     let said : ended (l .farm) (pendingOf (w .result)) ≡ accountLine (l .farm) (getD (o .result .numbers) 0 0) =
-    rest-row (l .farm) (w .result) ∙ ap (byRow (l .farm)) (sym (o .ensures)) ∙ row-turn (l .farm) (o .result) (sym (t .in-turn .ensures) ∙ not-false _ (c .before .before .before .before .before .before .before .if4 .left)) ∙ rw (c .before .before .before .before .before .enum-told .given .1) in (
-      day-line (l .inv .0) (w .result) (e .ensures .0) (w .ensures) (omega (arith, e .ensures .1, t .before .before .if3 .left)) said refl refl (p .ensures) (omega (arith, p .ensures .within, l .inv .1, t .before .before .before .before .before .if2 .left)),
+    rest-row (l .farm) (w .result) ∙ ap (byRow (l .farm)) (sym (o .ensures)) ∙ row-turn (l .farm) (o .result) (sym (t .in-turn .ensures) ∙ not-false _ (c .before .before .before .before .before .before .before .before .if4 .left)) ∙ rw (c .before .before .before .before .before .enum-told .given .1) in (
+      day-line (l .inv .0) (w .result) (e .ensures .0) (w .ensures) (omega (arith, e .ensures .1, t .before .before .if3 .left)) said refl refl
+      (within-same (ap answerText (c .before .before .before .account-unchecked .ensures)) (p .ensures)) (omega (arith, p .ensures .within, l .inv .1, t .before .before .before .before .before .if2 .left)),
+      l .inv .1,
+    )
+
+enum-told-2 : tie.Need-enum-told-2 Inv-loop μ-loop
+enum-told-2 c = search needs
+
+array-read-offer-unchecked : tie.Need-array-read-offer-unchecked Inv-loop μ-loop
+array-read-offer-unchecked c = search needs
+
+array-read-offer-unchecked-2 : tie.Need-array-read-offer-unchecked-2 Inv-loop μ-loop
+array-read-offer-unchecked-2 c = search needs
+
+array-read-offer-unchecked-3 : tie.Need-array-read-offer-unchecked-3 Inv-loop μ-loop
+array-read-offer-unchecked-3 c = search needs
+
+offer-unchecked-requires : tie.Need-offer-unchecked-requires Inv-loop μ-loop
+offer-unchecked-requires c κs =
+    let t = c .before .before .before .before in
+    let l = t .before .before .before .before .before .before .before .loop in
+    let s = t .before .before .before .before .before .before .before .before .before .before .before .before .before in
+    reachable-passes (l .farm) (day-reachable (l .inv .0) (s .pre))
+    (subst (λ (k : Kind). inTurn k (l .farm .opened) ≡ true) (c .enum-told2 .given .1) (sym (t .in-turn .ensures) ∙ not-false _ (c .before .before .before .if4 .left)))
+
+put-answer-requires-2 : tie.Need-put-answer-requires-2 Inv-loop μ-loop
+put-answer-requires-2 c κs = let g = c .before .before .before .before .before .before .before .before .before .before .before .before .before .loop .inv .0 .size in omega arith
+
+add-farm : tie.Need-add-farm Inv-loop μ-loop
+add-farm c = omega (arith, c .before .before .before .before .before .before .before .offer-unchecked .ensures .accepts (c .before .before .if5 .taken) .2)
+
+add-farm-2 : tie.Need-add-farm-2 Inv-loop μ-loop
+add-farm-2 c = omega (arith, c .before .before .before .before .before .before .before .before .offer-unchecked .ensures .accepts (c .before .before .before .if5 .taken) .1)
+
+loop-less-3 : tie.Need-loop-less-3 Inv-loop μ-loop
+loop-less-3 c = search needs
+
+loop-again-3 : tie.Need-loop-again-3 Inv-loop μ-loop
+unfolding called jobLine
+loop-again-3 c =
+    let n = c .before .before .before .before .before .before .before .before .before .before .before in
+    let t = n .before .before in
+    let l = t .before .before .before .before .before .before .before .loop in
+    let e = t .before .before .before .before .find in
+    let w = t .before .before .before .with-bytes in
+    let o = t .before .row-of in
+    let p = c .before .before .before .before .before .before .put-answer2 in
+    let d = c .before .before .before .before .before .before .before .before .offer-unchecked .ensures in
+    let said : ended (l .farm) (pendingOf (w .result)) ≡ jobLine (l .farm) (o .result .numbers) =
+    rest-row (l .farm) (w .result) ∙ ap (byRow (l .farm)) (sym (o .ensures)) ∙ row-turn (l .farm) (o .result) (sym (t .in-turn .ensures) ∙ not-false _ (n .before .if4 .left)) ∙ rw (c .before .before .before .before .before .before .before .before .before .enum-told2 .given .1) in (
+      day-line (l .inv .0) (w .result) (e .ensures .0) (w .ensures) (omega (arith, e .ensures .1, t .before .before .if3 .left)) said (sym (d .accepts (c .before .before .before .if5 .taken) .0)) refl
+      (within-same (ap answerText (d .says)) (p .ensures)) (omega (arith, p .ensures .within, l .inv .1, t .before .before .before .before .before .if2 .left)),
+      l .inv .1,
+    )
+
+loop-less-4 : tie.Need-loop-less-4 Inv-loop μ-loop
+loop-less-4 c = search needs
+
+loop-again-4 : tie.Need-loop-again-4 Inv-loop μ-loop
+unfolding called jobLine
+loop-again-4 c =
+    let n = c .before .before .before .before .before .before .before .before in
+    let t = n .before .before in
+    let l = t .before .before .before .before .before .before .before .loop in
+    let e = t .before .before .before .before .find in
+    let w = t .before .before .before .with-bytes in
+    let o = t .before .row-of in
+    let p = c .before .before .before .put-answer2 in
+    let d = c .before .before .before .before .before .offer-unchecked .ensures in
+    let said : ended (l .farm) (pendingOf (w .result)) ≡ jobLine (l .farm) (o .result .numbers) =
+    rest-row (l .farm) (w .result) ∙ ap (byRow (l .farm)) (sym (o .ensures)) ∙ row-turn (l .farm) (o .result) (sym (t .in-turn .ensures) ∙ not-false _ (n .before .if4 .left)) ∙ rw (c .before .before .before .before .before .before .enum-told2 .given .1) in (
+      day-line (l .inv .0) (w .result) (e .ensures .0) (w .ensures) (omega (arith, e .ensures .1, t .before .before .if3 .left)) said (sym (d .refuses (c .if5 .left))) refl
+      (within-same (ap answerText (d .says)) (p .ensures)) (omega (arith, p .ensures .within, l .inv .1, t .before .before .before .before .before .if2 .left)),
       l .inv .1,
     )
 
@@ -110,12 +194,12 @@ answer-row-requires c κs =
     let g = c .before .before .before .before .before .before .before .before .before .before .loop .inv .0 .size in
     (subst FarmRow (sym (c .before .before .before .before .row-of .ensures)) (row-farm (pendingOf (c .before .before .before .before .before .before .with-bytes .result))), omega arith)
 
-loop-less-3 : tie.Need-loop-less-3 Inv-loop μ-loop
-loop-less-3 c = search needs
+loop-less-5 : tie.Need-loop-less-5 Inv-loop μ-loop
+loop-less-5 c = search needs
 
-loop-again-3 : tie.Need-loop-again-3 Inv-loop μ-loop
-loop-again-3 c =
-    let t = c .before .before .before .before .before .before .before in
+loop-again-5 : tie.Need-loop-again-5 Inv-loop μ-loop
+loop-again-5 c =
+    let t = c .before .before .before .before .before .before .before .before in
     let l = t .before .before .before .before .before .before .before .loop in
     let e = t .before .before .before .before .find in
     let w = t .before .before .before .with-bytes in
@@ -155,12 +239,25 @@ answer-block-spec =
     loop-less
     loop-again
     enum-told
-    array-read-put-account
-    put-account-requires
+    array-read-account-unchecked
+    account-unchecked-requires
+    put-answer-requires
     loop-less-2
     loop-again-2
-    answer-row-requires
+    enum-told-2
+    array-read-offer-unchecked
+    array-read-offer-unchecked-2
+    array-read-offer-unchecked-3
+    offer-unchecked-requires
+    put-answer-requires-2
+    add-farm
+    add-farm-2
     loop-less-3
     loop-again-3
+    loop-less-4
+    loop-again-4
+    answer-row-requires
+    loop-less-5
+    loop-again-5
     same-length-3
     returns-4)
