@@ -1,6 +1,7 @@
 // Days that come through a file descriptor: read in blocks, answered by the crate protocol, and the answers written. A failed read or
 // write ends a day, and says so in one line on standard error.
 ghost use lib.ListN.{length};
+ghost use Rattle.protocol.specs.Reachable.{Reachable};
 ghost use Rattle.feeding.specs.Fed.{Answers};
 use libc::STDERR_FILENO;
 use protocol::Session;
@@ -14,7 +15,14 @@ pub struct Sent {
 
 // Answers a block. The answers are handed to the output at its end, and before it where `out` is full. It gives up only behind answers that
 // could not be written.
-fn answer_all(output: i32, session: Session, block: &[u8], out: &mut [u8]) -> Sent
+fn answer_all(
+    output: i32,
+    session: Session,
+    block: &[u8],
+    rows: &mut [[u64; 7]; 1024],
+    out: &mut [u8],
+) -> Sent
+    requires { ⌜ Reachable (session .farm) ⌝ }
     ensures { λ r. ⌜ Answers session (now (block .entry)) (length (now (out .entry))) r ⌝ }
 {
     let mut day = session;
@@ -29,7 +37,7 @@ fn answer_all(output: i32, session: Session, block: &[u8], out: &mut [u8]) -> Se
             };
         }
         turns -= 1;
-        let done = protocol::answer_block(day, block, next, out);
+        let done = protocol::answer_block(day, block, next, rows, out);
         let written = done.written;
         day = done.session;
         next = done.next;
@@ -57,25 +65,28 @@ fn tell_unwritten() {
 }
 
 // The end of the input: a last line may lack its newline.
-fn end(output: i32, session: Session, out: &mut [u8]) {
-    let written = protocol::end_of_input(session, out);
+fn end(output: i32, session: Session, rows: &mut [[u64; 7]; 1024], out: &mut [u8])
+    requires { ⌜ Reachable (session .farm) ⌝ }
+{
+    let written = protocol::end_of_input(session, rows, out);
     if !io::write_all(output, &out[0..written]) {
         tell_unwritten();
     }
 }
 
 // A day from `input` to `output`. One read a turn, so that lines that come one by one are answered as they come. The turns are counted
-// down from a number that no run uses up, since a proved loop has to end.
+// down from a number that no run uses up, since a proved loop has to end. The timetable's records are made once, and lent to every clock move.
 pub fn answer_stream(input: i32, output: i32) {
     let mut block = io::large_buffer();
     let mut out = [0u8; 262144];
+    let mut rows = [[0u64; 7]; 1024];
     let mut day = protocol::start();
     let mut turns = u64::MAX;
     while turns > 0 {
         turns -= 1;
         let got = libc::read(input, &mut block);
         if got == 0 {
-            end(output, day, &mut out);
+            end(output, day, &mut rows, &mut out);
             return;
         }
         let count = io::count(got, &block);
@@ -83,7 +94,7 @@ pub fn answer_stream(input: i32, output: i32) {
             tell_unread();
             return;
         }
-        let sent = answer_all(output, day, &block[0..count], &mut out);
+        let sent = answer_all(output, day, &block[0..count], &mut rows, &mut out);
         if !sent.ok {
             tell_unwritten();
             return;
