@@ -12,8 +12,8 @@ use lib.Seq.{length-take-le, take-suc-set, drop-set-lt, drop-drop}
 use Rattle.shares.specs.declared.Fewest.the-variants.{Nodes, None}
 use Rattle.shares.specs.declared.Costs.{Costs}
 use Rattle.shares.specs.Model.{first, left, leftAfter, capacity, cut, greedy, fewest, earliest, answers, fewestOf, earliestOf, stored, sharesOf}
-use Rattle.shares.specs.Capacity.{capacity-snoc}
-use Rattle.shares.specs.Least.{IsFewest, fewest-is, fewest-nodes, fewest-none}
+use Rattle.shares.specs.Capacity.{capacity-snoc, first-none, none-fits}
+use Rattle.shares.specs.Least.{IsFewest, fewest-is, fewest-nodes, fewest-none, earliest-is, earliest-short}
 
 -- Costs and a count that are answered for.
 pub answered : (c : Costs) (n : ℕ) → 1 ≤ c .send → n ≤ 64 → answers c n ≡ true
@@ -27,17 +27,6 @@ answered-is c n e = go (leb 1 (c .send)) (leb n 64) refl refl e
     go true false p q e = absurd (false≢true e)
     go false true p q e = absurd (false≢true e)
     go false false p q e = absurd (false≢true e)
-
--- The next share joins the capacity: what the first node holds, and what the rest hold of what it leaves.
-pub capacity-next : (c : Costs) (n w : ℕ) → 1 ≤ n → capacity c n w ≡ first c w + capacity c (n - 1) (left c w (first c w))
-unfolding capacity
-capacity-next c zero w h = absurd (omega arith)
-capacity-next c (suc n) w h = rw (sub-one (suc n))
-
--- No nodes hold nothing.
-pub capacity-no-node : (c : Costs) (w : ℕ) → capacity c 0 w ≡ 0
-unfolding capacity
-capacity-no-node c w = refl
 
 -- ---- The fewest nodes
 
@@ -74,6 +63,17 @@ earliest-answer c n z w e = rw e
 pub earliest-refused : (c : Costs) (n z w : ℕ) → answers c n ≡ false → earliestOf c n z w ≡ w
 unfolding earliestOf
 earliest-refused c n z w e = rw e
+
+-- Nothing needs no ticks.
+pub earliest-nothing : (c : Costs) (n z w : ℕ) → answers c n ≡ true → z ≡ 0 → earliestOf c n z w ≡ 0
+earliest-nothing c n z w e q =
+    earliest-answer c n z w e ∙ earliest-is c (answered-is c n e .0) n z w 0 (record { enough = omega arith; least = λ u h. omega arith }) (omega arith)
+
+-- A unit that takes more ticks than the window has is held by no nodes.
+pub earliest-beyond : (c : Costs) (n z w : ℕ) → answers c n ≡ true → 1 ≤ z → w < c .send + c .compute → earliestOf c n z w ≡ w
+earliest-beyond c n z w e h k =
+    let s : 1 ≤ c .send = answered-is c n e .0 in
+    earliest-answer c n z w e ∙ earliest-short c s n z w (omega (arith, none-fits c s n w w (first-none c w (omega arith)) (omega arith)))
 
 -- ---- The shares
 

@@ -3,7 +3,7 @@ use mathlib.Core.Path.{_≡_, refl, ap}
 use mathlib.Core.Bool.{Bool, true, false, cond}
 use Prim.Native.Nat.{ℕ, zero, suc, _+_, _*_, _-_, _/_, _≤_, _<_}
 use native.Mathlib.Nat.{le-div-iff-mul-le, div-mul-le-self, mul-le-mul-left, mul-le-mul-right, add-sub-of-le, div-le-self, div-eq-of-lt, div-zero, le-add-right}
-use native.Mathlib.Numerals.{add-one}
+use native.Mathlib.Numerals.{add-one, sub-one}
 use native.Mathlib.Decide.{decLe}
 use native.Mathlib.Omega.{arith}
 use borrow.Author.Tests.{leb-false}
@@ -43,6 +43,22 @@ first-used c w =
     let x = w - (c .linksetup + c .nodesetup) in
     let e = c .send + c .compute in
     omega (arith, div-mul-le-self x e, mul-le-mul-left (x / e) (le-add-right (c .send) (c .compute)))
+
+-- The next share joins the capacity: what the first node holds, and what the rest hold of what it leaves.
+pub capacity-next : (c : Costs) (n w : ℕ) → 1 ≤ n → capacity c n w ≡ first c w + capacity c (n - 1) (left c w (first c w))
+unfolding capacity
+capacity-next c zero w h = absurd (omega arith)
+capacity-next c (suc n) w h = rw (sub-one (suc n))
+
+-- No nodes hold nothing.
+pub capacity-no-node : (c : Costs) (w : ℕ) → capacity c 0 w ≡ 0
+unfolding capacity
+capacity-no-node c w = refl
+
+-- One node holds its first share.
+pub capacity-one : (c : Costs) (w : ℕ) → capacity c 1 w ≡ first c w
+unfolding capacity
+capacity-one c w = omega arith
 
 -- What is left after k nodes and one more is what that one leaves.
 pub left-snoc : (c : Costs) (k w : ℕ) → leftAfter c (k + 1) w ≡ left c (leftAfter c k w) (first c (leftAfter c k w))

@@ -3,8 +3,8 @@ use mathlib.Core.Path.{_≡_, refl, ap, sym, subst, _∙_}
 use mathlib.Core.List.{List}
 use mathlib.Core.Bool.{Bool, true, false, cond}
 use mathlib.Core.Logic.{_↔_}
-use Prim.Native.Nat.{ℕ, zero, suc, _-_, _≤_, _<_}
-use native.Mathlib.Nat.{le-antisymm, sub-zero}
+use Prim.Native.Nat.{ℕ, zero, suc, _+_, _*_, _-_, _≤_, _<_}
+use native.Mathlib.Nat.{le-antisymm, sub-zero, mul-le-mul-right}
 use native.Mathlib.Decide.{decLe}
 use native.Mathlib.Omega.{arith}
 use borrow.Author.Tests.{lt-leb, leb-true, leb-false}
@@ -13,9 +13,9 @@ use lib.ListN.{length}
 use Rattle.shares.specs.declared.Costs.{Costs}
 use Rattle.shares.specs.declared.Fewest.{Fewest}
 use Rattle.shares.specs.declared.Fewest.the-variants.{Nodes, None}
-use Rattle.shares.specs.Model.{finish, sum, capacity, greedy, orElse, fewest, earliest}
+use Rattle.shares.specs.Model.{finish, sum, first, capacity, greedy, orElse, fewest, earliest}
 use Rattle.shares.specs.Lists.{Positive, NoLarger, no-larger-both}
-use Rattle.shares.specs.Capacity.{slack, longer, more-nodes, at-most-window}
+use Rattle.shares.specs.Capacity.{capacity-one, first-most, first-fits, slack, longer, more-nodes, at-most-window}
 use Rattle.shares.specs.Optimal.{optimal, greedy-ends, greedy-sum, greedy-largest, greedy-length, greedy-positive}
 
 -- k is the fewest nodes that hold z units in w ticks
@@ -94,6 +94,21 @@ module _ (c : Costs) (sends : 1 ≤ c .send) where
   -- A shorter window that is long enough has the same least window.
   pub earliest-same : (n z v w : ℕ) → z ≤ capacity c n v → v ≤ w → earliest c n z v ≡ earliest c n z w
   earliest-same n z v w h k = sym (earliest-is n z w (earliest c n z v) (earliest-least n z v h) (omega (arith, earliest-within n z v)))
+
+  -- A size that fits as the first share takes both setups and the units of the window.
+  pub one-within : (z w : ℕ) → 1 ≤ z → z ≤ first c w → (c .linksetup + c .nodesetup + z * (c .send + c .compute) ≤ w) × (c .send + c .compute ≤ z * (c .send + c .compute))
+  one-within z w h k =
+      let e = c .send + c .compute in
+      (omega (arith, first-fits c sends w (omega arith), mul-le-mul-right e k), omega (arith, mul-le-mul-right e h))
+
+  -- For one node that is the least window.
+  pub one-least : (z : ℕ) → 1 ≤ z → IsEarliest c 1 z (c .linksetup + c .nodesetup + z * (c .send + c .compute))
+  one-least z h =
+      let v = c .linksetup + c .nodesetup + z * (c .send + c .compute) in
+      record {
+        enough = omega (arith, capacity-one c v, first-most c sends v z (omega arith));
+        least = λ u k. one-within z u h (omega (arith, capacity-one c u)) .0;
+      }
 
   -- In the least window the capacity is exactly the size.
   pub exact : (n z v : ℕ) → IsEarliest c n z v → capacity c n v ≡ z

@@ -2,10 +2,11 @@
 // nodes, in how short a window, and with which shares. It knows nothing of jobs, shows, clocks or farms.
 // What each function means is in specs/Model.antt; the other files of specs/ show what follows.
 ghost use mathlib.Core.Path.{_≡_};
-ghost use mathlib.Core.Bool.{true};
-ghost use Prim.Native.Nat.{_+_, _≤_, _<_};
-ghost use Rattle.shares.specs.Model.{sendEnd, chunkFinish, first, answers, nextOf, fewestOf, earliestOf, sharesOf};
-ghost use Rattle.shares.specs.Model as model;
+ghost use mathlib.Core.Bool.{_&&_};
+ghost use lib.Dec.{leb, eqb};
+ghost use Prim.Native.Nat.{_+_, _-_, _≤_, _<_};
+ghost use Rattle.shares.specs.Model.{sendEnd, chunkFinish, first, answers, nextOf, fewestOf, earliest, earliestOf, sharesOf};
+ghost use Rattle.shares.specs.Slack.{costsOf, Found};
 use numbers::less;
 use numbers::smaller;
 
@@ -116,8 +117,8 @@ pub fn fewest_nodes(costs: Costs, nodes: usize, size: u64, window: u64) -> Fewes
     Fewest::None
 }
 
-// A window that was tried: what the nodes hold in it, and how many ticks less (`spare`) or more (`gap`) change
-// some share. Only the units are relied on; the other numbers make for good guesses.
+// A window that was tried: what the nodes hold in it, how many ticks less change no share (`spare`), and how many
+// ticks more change some share (`gap`).
 struct Tried {
     window: u64,
     units: u64,
@@ -125,65 +126,62 @@ struct Tried {
     gap: u64,
 }
 
-// The ticks of a unit, sent and computed; no more than a guess where they wrap.
-fn each_of(costs: Costs) -> u64 {
-    std::num::wrapping_add_u64(costs.send, costs.compute)
-}
-
-// The ticks of a window that its first node has no use for: too few for one unit more.
-fn unused(costs: Costs, window: u64) -> u64 {
-    let each = each_of(costs);
-    if each == 0 {
-        return 0;
-    }
-    less(less(window, costs.linksetup), costs.nodesetup) % each
-}
-
-// A window in which nothing is held.
-fn nothing(costs: Costs, window: u64) -> Tried
-    ensures { λ r. ⌜ r .units ≡ 0 ⌝ }
-{
-    Tried {
-        window,
-        units: 0,
-        spare: u64::MAX,
-        gap: each_of(costs),
-    }
-}
-
-// A window in which the first node holds a share, and the rest what they were found to hold of what it leaves.
-fn joined(costs: Costs, window: u64, share: u64, rest: Tried) -> Tried
-    requires { ⌜ share + rest .units < 18446744073709551616 ⌝ }
-    ensures { λ r. ⌜ r .units ≡ share + rest .units ⌝ }
-{
-    let over = unused(costs, window);
-    Tried {
-        window,
-        units: share + rest.units,
-        spare: smaller(rest.spare, over),
-        gap: smaller(rest.gap, less(each_of(costs), over)),
-    }
-}
-
 // What `nodes` nodes hold in a window: the first its share, and the rest what it leaves, in the same way. If not even
-// 1 fits, it holds 0 and so do the rest.
-fn capacity(costs: Costs, nodes: usize, window: u64) -> Tried
-    requires { ⌜ answers costs nodes ≡ true ⌝ }
-    ensures { λ r. ⌜ r .units ≡ model.capacity costs nodes window ⌝ }
+// 1 fits, it holds 0 and so do the rest. It takes numbers and hands back one, so that the compiler makes it a loop;
+// each node costs one division.
+fn capacity(
+    send: u64,
+    compute: u64,
+    link: u64,
+    node: u64,
+    nodes: usize,
+    window: u64,
+    spare: &mut u64,
+    gap: &mut u64,
+) -> u64
+    requires { ⌜ (1 ≤ send) × (nodes ≤ 64) × (send + compute < 18446744073709551616) ⌝ }
+    ensures { λ r. ⌜ Found (costsOf send compute link node) nodes window (now (spare .entry)) (now (gap .entry)) r (now (spare .exit)) (now (gap .exit)) ⌝ }
 {
     if nodes == 0 {
-        return nothing(costs, window);
+        return 0;
     }
-    let next = next_share(costs, window);
-    if next.units == 0 {
-        return nothing(costs, window);
+    let each = send + compute;
+    let room = less(less(window, link), node);
+    if room < each {
+        *gap = smaller(*gap, each - room);
+        return 0;
     }
-    joined(
-        costs,
+    let share = room / each;
+    let over = room - share * each;
+    *spare = smaller(*spare, over);
+    *gap = smaller(*gap, each - over);
+    let left = less(window, link + share * send);
+    share + capacity(send, compute, link, node, nodes - 1, left, spare, gap)
+}
+
+// Tries a window.
+fn try_window(costs: Costs, nodes: usize, window: u64) -> Tried
+    requires { ⌜ (1 ≤ costs .send) × (nodes ≤ 64) × (costs .send + costs .compute < 18446744073709551616) ⌝ }
+    ensures { λ r. ⌜ Found costs nodes window 18446744073709551615 (costs .send + costs .compute) (r .units) (r .spare) (r .gap) ⌝ }
+{
+    let mut spare = u64::MAX;
+    let mut gap = costs.send + costs.compute;
+    let units = capacity(
+        costs.send,
+        costs.compute,
+        costs.linksetup,
+        costs.nodesetup,
+        nodes,
         window,
-        next.units,
-        capacity(costs, nodes - 1, next.left),
-    )
+        &mut spare,
+        &mut gap,
+    );
+    Tried {
+        window,
+        units,
+        spare,
+        gap,
+    }
 }
 
 // The product, and the largest number where it would wrap.
@@ -205,7 +203,7 @@ fn setups(costs: Costs, nodes: usize) -> Tried {
         window: std::num::wrapping_add_u64(once, waits),
         units: 0,
         spare: 0,
-        gap: each_of(costs),
+        gap: std::num::wrapping_add_u64(costs.send, costs.compute),
     }
 }
 
@@ -256,15 +254,35 @@ fn next_turn(turn: u64) -> u64 {
     0
 }
 
-// The earliest finish: the least window, of at most the given one, in which the nodes hold a size. Where the
-// given window is too short it is the answer. Windows are tried by good guesses, most often 3 to 7 of them.
-pub fn earliest_finish(costs: Costs, nodes: usize, size: u64, window: u64) -> u64
-    ensures { λ r. ⌜ r ≡ earliestOf costs nodes size window ⌝ }
+// Whether a tried window tells the least one that holds a size: it holds the size exactly, and a share that is one unit
+// smaller leaves the rest too few ticks more (`send` less `spare` at most) for another of their shares to grow.
+fn settles(next: Tried, size: u64, send: u64) -> bool
+    ensures { λ r. ⌜ r ≡ (eqb (next .units) size && leb (send - next .spare) (next .gap)) ⌝ }
 {
-    if !answerable(costs, nodes) {
+    if next.units == size {
+        return less(send, next.spare) <= next.gap;
+    }
+    false
+}
+
+// The least window, of at most the given one, in which one node holds a size: both setups and the units.
+fn least_for_one(costs: Costs, size: u64, window: u64) -> u64
+    requires { ⌜ (1 ≤ costs .send) × (1 ≤ size) ⌝ }
+    ensures { λ r. ⌜ r ≡ earliest costs 1 size window ⌝ }
+{
+    if first_share(costs, window) < size {
         return window;
     }
-    let mut long = capacity(costs, nodes, window);
+    costs.linksetup + costs.nodesetup + size * (costs.send + costs.compute)
+}
+
+// The least window, of at most the given one, in which some nodes hold a size. Windows are tried by good guesses, most
+// often 2 or 3 of them.
+fn least_window(costs: Costs, nodes: usize, size: u64, window: u64) -> u64
+    requires { ⌜ (1 ≤ costs .send) × (nodes ≤ 64) × (costs .send + costs .compute < 18446744073709551616) × (1 ≤ size) ⌝ }
+    ensures { λ r. ⌜ r ≡ earliest costs nodes size window ⌝ }
+{
+    let mut long = try_window(costs, nodes, window);
     if long.units < size {
         return window;
     }
@@ -274,9 +292,12 @@ pub fn earliest_finish(costs: Costs, nodes: usize, size: u64, window: u64) -> u6
     let mut turn: u64 = 0;
     while low < high {
         let middle = next_window(low, high, turn, guess(short, long, size));
-        let next = capacity(costs, nodes, middle);
+        let next = try_window(costs, nodes, middle);
         turn = next_turn(turn);
         if size <= next.units {
+            if settles(next, size, costs.send) {
+                return middle - next.spare;
+            }
             high = middle;
             long = next;
         } else {
@@ -285,6 +306,26 @@ pub fn earliest_finish(costs: Costs, nodes: usize, size: u64, window: u64) -> u6
         }
     }
     high
+}
+
+// The earliest finish: the least window, of at most the given one, in which the nodes hold a size. Where the
+// given window is too short it is the answer; so it is where a unit takes more ticks than any window has.
+pub fn earliest_finish(costs: Costs, nodes: usize, size: u64, window: u64) -> u64
+    ensures { λ r. ⌜ r ≡ earliestOf costs nodes size window ⌝ }
+{
+    if !answerable(costs, nodes) {
+        return window;
+    }
+    if size == 0 {
+        return 0;
+    }
+    if nodes == 1 {
+        return least_for_one(costs, size, window);
+    }
+    if u64::MAX - costs.send < costs.compute {
+        return window;
+    }
+    least_window(costs, nodes, size, window)
 }
 
 // The shares with which the nodes hold what a window can hold: each node in turn the largest that fits.

@@ -1,89 +1,136 @@
 -- `shares::capacity` meets its contract: a recursion over the nodes left. The measure is their count.
-use mathlib.Core.Path.{_≡_, sym, ap, _∙_}
 use native.Mathlib.Omega.{arith}
-use Rattle.shares.specs.declared.Share.{Share}
-use Rattle.shares.specs.Model.{first, nextOf}
-use Rattle.shares.specs.Model as model
-use Rattle.shares.specs.Capacity.{none-fits, at-most-window}
-use Rattle.shares.specs.Answers.{answered, answered-is, capacity-no-node, capacity-next}
+use denote.Ref.{now}
+use Rattle.shares.specs.Capacity.{at-most-window}
+use Rattle.shares.specs.Slack.{costsOf, share-takes, found-no-node, found-none, found-next}
 use borrow.Author.Needs.{needs}
-use Prim.Native.Nat.{ℕ, _+_, _-_, _<_}
+use Prim.Native.Nat.{ℕ, _<_}
 use borrow.Fn.Kinds.{In}
 use borrow.Fn.PlainCycle.{Measures, is, falls, and}
 use Rattle.shares.proofs.capacity.Reads as capacity
 use Rattle.shares.proofs.capacity.Kinds as capacity-kinds
 use Rattle.shares.proofs.+capacity.Lts-capacity as capacity-lts
-use Rattle.shares.proofs.joined.Reads as joined-reads
-use Rattle.shares.proofs.next_share.Reads as next-share-reads
-use Rattle.shares.proofs.nothing.Reads as nothing-reads
+use Rattle.numbers.proofs.less.Reads as less-reads
+use Rattle.numbers.proofs.smaller.Reads as smaller-reads
 use Rattle.shares.proofs.+capacity.{statement}
 use Rattle.shares.proofs.+capacity.Tie.{close}
 
-abbrev μ-capacity : Measures 0 capacity-kinds.ps ℕ
-μ-capacity κs a = a .1 .0
+abbrev μ-capacity : Measures 2 capacity-kinds.ps ℕ
+μ-capacity κs a = a .1 .1 .1 .1 .0
 
-abbrev capacity-at : ℕ → In 0 capacity-kinds.ps
-capacity-at t = and 0 capacity-kinds.ps (is 0 capacity-kinds.ps μ-capacity t) capacity.Pre
+abbrev capacity-at : ℕ → In 2 capacity-kinds.ps
+capacity-at t = and 2 capacity-kinds.ps (is 2 capacity-kinds.ps μ-capacity t) capacity.Pre
 
-abbrev capacity-below : ℕ → In 0 capacity-kinds.ps
+abbrev capacity-below : ℕ → In 2 capacity-kinds.ps
 capacity-below t =
-    and 0 capacity-kinds.ps (falls 0 capacity-kinds.ps _<_ μ-capacity t) capacity.Pre
+    and 2 capacity-kinds.ps (falls 2 capacity-kinds.ps _<_ μ-capacity t) capacity.Pre
 
-capacity-nothing-requires : (t : ℕ) → capacity-lts.Need-nothing-requires (nothing-reads.Asked, nothing-reads.Learnt, next-share-reads.Asked, next-share-reads.Learnt, capacity-below t, capacity.Post, joined-reads.Asked, joined-reads.Learnt) (capacity-at t) capacity.Post
-capacity-nothing-requires t c κs = search needs
+capacity-returns : (t : ℕ) → capacity-lts.Need-returns (less-reads.Asked, less-reads.Learnt, smaller-reads.Asked, smaller-reads.Learnt, capacity-below t, capacity.Post) (capacity-at t) capacity.Post
+capacity-returns t c =
+    let a = c .before .args in
+    found-no-node (costsOf (a .send) (a .compute) (a .link) (a .node)) (c .before .pre .1 .0) (a .nodes) (a .window) (now (a .spare)) (now (a .gap)) (c .if1 .taken)
 
-capacity-returns : (t : ℕ) → capacity-lts.Need-returns (nothing-reads.Asked, nothing-reads.Learnt, next-share-reads.Asked, next-share-reads.Learnt, capacity-below t, capacity.Post, joined-reads.Asked, joined-reads.Learnt) (capacity-at t) capacity.Post
-capacity-returns t c = c .nothing .ensures ∙ rw (c .before .if1 .taken) (sym (capacity-no-node (c .before .before .args .costs) (c .before .before .args .window)))
+capacity-add-each : (t : ℕ) → capacity-lts.Need-add-each (less-reads.Asked, less-reads.Learnt, smaller-reads.Asked, smaller-reads.Learnt, capacity-below t, capacity.Post) (capacity-at t) capacity.Post
+capacity-add-each t c = search needs
 
-capacity-next-share-requires : (t : ℕ) → capacity-lts.Need-next-share-requires (nothing-reads.Asked, nothing-reads.Learnt, next-share-reads.Asked, next-share-reads.Learnt, capacity-below t, capacity.Post, joined-reads.Asked, joined-reads.Learnt) (capacity-at t) capacity.Post
-capacity-next-share-requires t c κs = search needs
+capacity-less-requires : (t : ℕ) → capacity-lts.Need-less-requires (less-reads.Asked, less-reads.Learnt, smaller-reads.Asked, smaller-reads.Learnt, capacity-below t, capacity.Post) (capacity-at t) capacity.Post
+capacity-less-requires t c κs = search needs
 
-capacity-nothing-requires-2 : (t : ℕ) → capacity-lts.Need-nothing-requires-2 (nothing-reads.Asked, nothing-reads.Learnt, next-share-reads.Asked, next-share-reads.Learnt, capacity-below t, capacity.Post, joined-reads.Asked, joined-reads.Learnt) (capacity-at t) capacity.Post
-capacity-nothing-requires-2 t c κs = search needs
+capacity-less-requires-2 : (t : ℕ) → capacity-lts.Need-less-requires-2 (less-reads.Asked, less-reads.Learnt, smaller-reads.Asked, smaller-reads.Learnt, capacity-below t, capacity.Post) (capacity-at t) capacity.Post
+capacity-less-requires-2 t c κs = search needs
 
-capacity-returns-2 : (t : ℕ) → capacity-lts.Need-returns-2 (nothing-reads.Asked, nothing-reads.Learnt, next-share-reads.Asked, next-share-reads.Learnt, capacity-below t, capacity.Post, joined-reads.Asked, joined-reads.Learnt) (capacity-at t) capacity.Post
-unfolding nextOf
+capacity-sub-smaller : (t : ℕ) → capacity-lts.Need-sub-smaller (less-reads.Asked, less-reads.Learnt, smaller-reads.Asked, smaller-reads.Learnt, capacity-below t, capacity.Post) (capacity-at t) capacity.Post
+capacity-sub-smaller t c = search needs
+
+capacity-smaller-requires : (t : ℕ) → capacity-lts.Need-smaller-requires (less-reads.Asked, less-reads.Learnt, smaller-reads.Asked, smaller-reads.Learnt, capacity-below t, capacity.Post) (capacity-at t) capacity.Post
+capacity-smaller-requires t c κs = search needs
+
+capacity-returns-2 : (t : ℕ) → capacity-lts.Need-returns-2 (less-reads.Asked, less-reads.Learnt, smaller-reads.Asked, smaller-reads.Learnt, capacity-below t, capacity.Post) (capacity-at t) capacity.Post
 capacity-returns-2 t c =
-    let a = c .before .before .before .before .before .args in
-    let none : first (a .costs) (a .window) ≡ 0 = sym (ap (λ (x : Share). x .units) (c .before .before .before .next-share .ensures)) ∙ c .before .if2 .taken in
-    c .nothing2 .ensures ∙ sym (none-fits (a .costs) (answered-is (a .costs) (a .nodes) (c .before .before .before .before .before .pre .1) .0) (a .nodes) (a .window) (a .window) none (omega arith))
+    let a = c .before .before .before .before .before .before .args in
+    found-none (costsOf (a .send) (a .compute) (a .link) (a .node)) (c .before .before .before .before .before .before .pre .1 .0) (a .nodes) (a .window) (now (a .spare)) (now (a .gap))
+    (c .before .before .before .before .less .result) (c .before .before .before .less2 .result) (c .smaller .result) (omega arith) (c .before .before .before .before .less .ensures) (c .before .before .before .less2 .ensures)
+    (c .before .before .if2 .taken) (c .smaller .ensures)
 
-capacity-sub-capacity : (t : ℕ) → capacity-lts.Need-sub-capacity (nothing-reads.Asked, nothing-reads.Learnt, next-share-reads.Asked, next-share-reads.Learnt, capacity-below t, capacity.Post, joined-reads.Asked, joined-reads.Learnt) (capacity-at t) capacity.Post
-capacity-sub-capacity t c = omega arith
+capacity-div-share : (t : ℕ) → capacity-lts.Need-div-share (less-reads.Asked, less-reads.Learnt, smaller-reads.Asked, smaller-reads.Learnt, capacity-below t, capacity.Post) (capacity-at t) capacity.Post
+capacity-div-share t c = search needs
 
-capacity-capacity-requires : (t : ℕ) → capacity-lts.Need-capacity-requires (nothing-reads.Asked, nothing-reads.Learnt, next-share-reads.Asked, next-share-reads.Learnt, capacity-below t, capacity.Post, joined-reads.Asked, joined-reads.Learnt) (capacity-at t) capacity.Post
-capacity-capacity-requires t c κs =
+capacity-mul-over : (t : ℕ) → capacity-lts.Need-mul-over (less-reads.Asked, less-reads.Learnt, smaller-reads.Asked, smaller-reads.Learnt, capacity-below t, capacity.Post) (capacity-at t) capacity.Post
+capacity-mul-over t c =
     let a = c .before .before .before .before .args in
-    let g = answered-is (a .costs) (a .nodes) (c .before .before .before .before .pre .1) in
-    (omega arith, answered (a .costs) (a .nodes - 1) (g .0) (omega arith))
+    omega (arith, share-takes (costsOf (a .send) (a .compute) (a .link) (a .node)) (c .before .before .before .before .pre .1 .0) (c .before .less2 .result))
 
--- the share and what the rest hold are the capacity
-adds : (t : ℕ) (c : capacity-lts.After-capacity (nothing-reads.Asked, nothing-reads.Learnt, next-share-reads.Asked, next-share-reads.Learnt, capacity-below t, capacity.Post, joined-reads.Asked, joined-reads.Learnt) (capacity-at t) capacity.Post)
-    → c .before .before .before .next-share .result .units + c .capacity .result .units ≡ model.capacity (c .before .before .before .before .before .args .costs) (c .before .before .before .before .before .args .nodes) (c .before .before .before .before .before .args .window)
-unfolding nextOf
-adds t c =
-    let a = c .before .before .before .before .before .args in
-    rw (c .capacity .ensures, c .before .before .before .next-share .ensures) (sym (capacity-next (a .costs) (a .nodes) (a .window) (omega arith)))
+capacity-sub-over : (t : ℕ) → capacity-lts.Need-sub-over (less-reads.Asked, less-reads.Learnt, smaller-reads.Asked, smaller-reads.Learnt, capacity-below t, capacity.Post) (capacity-at t) capacity.Post
+capacity-sub-over t c =
+    let a = c .before .before .before .before .args in
+    omega (arith, share-takes (costsOf (a .send) (a .compute) (a .link) (a .node)) (c .before .before .before .before .pre .1 .0) (c .before .less2 .result))
 
-capacity-joined-requires : (t : ℕ) → capacity-lts.Need-joined-requires (nothing-reads.Asked, nothing-reads.Learnt, next-share-reads.Asked, next-share-reads.Learnt, capacity-below t, capacity.Post, joined-reads.Asked, joined-reads.Learnt) (capacity-at t) capacity.Post
-capacity-joined-requires t c κs =
-    let a = c .before .before .before .before .before .args in
-    let g = answered-is (a .costs) (a .nodes) (c .before .before .before .before .before .pre .1) in
-    omega (arith, adds t c, at-most-window (a .costs) (g .0) (a .nodes) (a .window))
+capacity-smaller-requires-2 : (t : ℕ) → capacity-lts.Need-smaller-requires-2 (less-reads.Asked, less-reads.Learnt, smaller-reads.Asked, smaller-reads.Learnt, capacity-below t, capacity.Post) (capacity-at t) capacity.Post
+capacity-smaller-requires-2 t c κs = search needs
 
-capacity-returns-3 : (t : ℕ) → capacity-lts.Need-returns-3 (nothing-reads.Asked, nothing-reads.Learnt, next-share-reads.Asked, next-share-reads.Learnt, capacity-below t, capacity.Post, joined-reads.Asked, joined-reads.Learnt) (capacity-at t) capacity.Post
-capacity-returns-3 t c = c .joined .ensures ∙ adds t (c .before)
+capacity-sub-smaller-2 : (t : ℕ) → capacity-lts.Need-sub-smaller-2 (less-reads.Asked, less-reads.Learnt, smaller-reads.Asked, smaller-reads.Learnt, capacity-below t, capacity.Post) (capacity-at t) capacity.Post
+capacity-sub-smaller-2 t c =
+    let a = c .before .before .before .before .before .before .before .args in
+    omega (arith, share-takes (costsOf (a .send) (a .compute) (a .link) (a .node)) (c .before .before .before .before .before .before .before .pre .1 .0) (c .before .before .before .before .less2 .result))
+
+capacity-smaller-requires-3 : (t : ℕ) → capacity-lts.Need-smaller-requires-3 (less-reads.Asked, less-reads.Learnt, smaller-reads.Asked, smaller-reads.Learnt, capacity-below t, capacity.Post) (capacity-at t) capacity.Post
+capacity-smaller-requires-3 t c κs = search needs
+
+capacity-mul-less : (t : ℕ) → capacity-lts.Need-mul-less (less-reads.Asked, less-reads.Learnt, smaller-reads.Asked, smaller-reads.Learnt, capacity-below t, capacity.Post) (capacity-at t) capacity.Post
+capacity-mul-less t c =
+    let a = c .before .before .before .before .before .before .before .before .args in
+    omega (arith, share-takes (costsOf (a .send) (a .compute) (a .link) (a .node)) (c .before .before .before .before .before .before .before .before .pre .1 .0) (c .before .before .before .before .before .less2 .result))
+
+capacity-add-less : (t : ℕ) → capacity-lts.Need-add-less (less-reads.Asked, less-reads.Learnt, smaller-reads.Asked, smaller-reads.Learnt, capacity-below t, capacity.Post) (capacity-at t) capacity.Post
+capacity-add-less t c =
+    let a = c .before .before .before .before .before .before .before .before .args in
+    omega (arith, share-takes (costsOf (a .send) (a .compute) (a .link) (a .node)) (c .before .before .before .before .before .before .before .before .pre .1 .0) (c .before .before .before .before .before .less2 .result))
+
+capacity-less-requires-3 : (t : ℕ) → capacity-lts.Need-less-requires-3 (less-reads.Asked, less-reads.Learnt, smaller-reads.Asked, smaller-reads.Learnt, capacity-below t, capacity.Post) (capacity-at t) capacity.Post
+capacity-less-requires-3 t c κs = search needs
+
+capacity-sub-capacity : (t : ℕ) → capacity-lts.Need-sub-capacity (less-reads.Asked, less-reads.Learnt, smaller-reads.Asked, smaller-reads.Learnt, capacity-below t, capacity.Post) (capacity-at t) capacity.Post
+capacity-sub-capacity t c = search needs
+
+capacity-capacity-requires : (t : ℕ) → capacity-lts.Need-capacity-requires (less-reads.Asked, less-reads.Learnt, smaller-reads.Asked, smaller-reads.Learnt, capacity-below t, capacity.Post) (capacity-at t) capacity.Post
+capacity-capacity-requires t c κs = search needs
+
+capacity-returns-3 : (t : ℕ) → capacity-lts.Need-returns-3 (less-reads.Asked, less-reads.Learnt, smaller-reads.Asked, smaller-reads.Learnt, capacity-below t, capacity.Post) (capacity-at t) capacity.Post
+capacity-returns-3 t c =
+    let a = c .before .before .before .before .before .before .before .before .before .before .before .before .args in
+    found-next (costsOf (a .send) (a .compute) (a .link) (a .node)) (c .before .before .before .before .before .before .before .before .before .before .before .before .pre .1 .0) (a .nodes) (a .window) (now (a .spare)) (now (a .gap))
+    (c .before .before .before .before .before .before .before .before .before .before .less .result) (c .before .before .before .before .before .before .before .before .before .less2 .result) (c .before .before .before .less3 .result) (c .before .before .before .before .before .before .smaller2 .result) (c .before .before .before .before .smaller3 .result)
+    (c .capacity .result) (c .capacity .last .1 .1 .1 .1 .1 .1 .0) (c .capacity .last .1 .1 .1 .1 .1 .1 .1 .0)
+    (omega arith) (c .before .before .before .before .before .before .before .before .before .before .less .ensures) (c .before .before .before .before .before .before .before .before .before .less2 .ensures) (omega arith) (c .before .before .before .less3 .ensures)
+    (c .before .before .before .before .before .before .smaller2 .ensures) (c .before .before .before .before .smaller3 .ensures) (c .capacity .ensures)
+
+-- the sum fits, since it is the capacity, which is at most the window
+capacity-add-result : (t : ℕ) → capacity-lts.Need-add-result (less-reads.Asked, less-reads.Learnt, smaller-reads.Asked, smaller-reads.Learnt, capacity-below t, capacity.Post) (capacity-at t) capacity.Post
+capacity-add-result t c =
+    let a = c .before .before .before .before .before .before .before .before .before .before .before .before .args in
+    omega (arith, capacity-returns-3 t c .held, at-most-window (costsOf (a .send) (a .compute) (a .link) (a .node)) (c .before .before .before .before .before .before .before .before .before .before .before .before .pre .1 .0) (a .nodes) (a .window))
 
 pub +capacity-spec : {M : Type 1} → statement M
-+capacity-spec = close μ-capacity λ t. capacity-lts.spec (nothing-reads.Asked, nothing-reads.Learnt, next-share-reads.Asked, next-share-reads.Learnt, capacity-below t, capacity.Post, joined-reads.Asked, joined-reads.Learnt)
++capacity-spec = close μ-capacity λ t. capacity-lts.spec (less-reads.Asked, less-reads.Learnt, smaller-reads.Asked, smaller-reads.Learnt, capacity-below t, capacity.Post)
     (capacity-at t)
     capacity.Post
-    (capacity-nothing-requires t)
     (capacity-returns t)
-    (capacity-next-share-requires t)
-    (capacity-nothing-requires-2 t)
+    (capacity-add-each t)
+    (capacity-less-requires t)
+    (capacity-less-requires-2 t)
+    (capacity-sub-smaller t)
+    (capacity-smaller-requires t)
     (capacity-returns-2 t)
+    (capacity-div-share t)
+    (capacity-mul-over t)
+    (capacity-sub-over t)
+    (capacity-smaller-requires-2 t)
+    (capacity-sub-smaller-2 t)
+    (capacity-smaller-requires-3 t)
+    (capacity-mul-less t)
+    (capacity-add-less t)
+    (capacity-less-requires-3 t)
     (capacity-sub-capacity t)
     (capacity-capacity-requires t)
-    (capacity-joined-requires t)
+    (capacity-add-result t)
     (capacity-returns-3 t)
