@@ -75,13 +75,14 @@ pub fn occupied_by(costs: Costs, busy: Busy, jobs: [Job; 128], count: usize) -> 
     requires { ⌜ (count ≤ 128) × All (Sends costs) (take count jobs) ⌝ }
     ensures { λ r. ⌜ r ≡ afters busy (linesOfAll costs (take count jobs)) ⌝ }
 {
-    let mut now = busy;
+    let mut free = busy.free;
+    let mut link = busy.link;
     let mut i = 0;
     while i < count {
-        now = occupied(costs, now, jobs[i]);
+        link = occupied(costs, link, jobs[i], &mut free);
         i += 1;
     }
-    now
+    Busy { link, free }
 }
 
 // The held ticks after a job has begun: each of its chunks adds its finish minus the job's start.

@@ -10,7 +10,7 @@ use native.Mathlib.Omega.{arith}
 use borrow.Author.Tests.{le-leb}
 use lib.Dec.{leb}
 use lib.ListN.{length}
-use Rattle.lists.specs.Laws.{Pairs}
+use Rattle.lists.specs.Laws.{All, Pairs, all-map}
 use Rattle.shares.specs.Model.{answers}
 use Rattle.booking.specs.Model.{bookingOf}
 use Rattle.booking.specs.Best.{NoChoice, Best, IsBooking}
@@ -46,27 +46,38 @@ step-is w b j e h z =
     ⊎-elim (λ x. inl (rw (x .0), x .1)) (λ x. inr (le-leb 1 (step w b j .booking .count) (best-some (requestOf w b j) (b .free) (step w b j .booking) z x), x))
     (book-is (requestOf w b j) (b .free) e h z)
 
-ready-next : (w : Terms) (j : Job) (js : List Job) → Ready w (j ∷ js) → Ready w js
-ready-next w j js r = record { answered = r .answered; jobs = r .jobs .1 }
+-- Costs and nodes for which the shares answer, and jobs of at least one unit.
+module _ (w : Terms) (e : answers (w .costs) (w .nodes) ≡ true) where
+  -- all are booked and best, or some job is without a choice
+  turns-are : (b : Busy) (js : List Job) → All (λ (j : Job). 1 ≤ j .size) js → w .nodes ≤ length (b .free)
+      → ((booksAll w b js ≡ true) × BestAll w b js) ⊎ ((booksAll w b js ≡ false) × Fails w b js)
+  unfolding booksAll
+  turns-are b [] z h = inl (refl, tt)
+  turns-are b (j ∷ js) z h =
+      go (turns-are (busyAfter w b j) js (z .1) (omega (arith, afters-length b (linesOf (w .costs) (step w b j)))))
+      (step-is w b j e h (z .0))
+    where
+      go : ((booksAll w (busyAfter w b j) js ≡ true) × BestAll w (busyAfter w b j) js) ⊎ ((booksAll w (busyAfter w b j) js ≡ false) × Fails w (busyAfter w b j) js)
+          → ((leb 1 (step w b j .booking .count) ≡ false) × NoChoice (requestOf w b j) (b .free))
+          ⊎ ((leb 1 (step w b j .booking .count) ≡ true) × Best (requestOf w b j) (b .free) (step w b j .booking))
+          → (((leb 1 (step w b j .booking .count) && booksAll w (busyAfter w b j) js) ≡ true) × BestAll w b (j ∷ js))
+          ⊎ (((leb 1 (step w b j .booking .count) && booksAll w (busyAfter w b j) js) ≡ false) × Fails w b (j ∷ js))
+      go rest (inl x) = inr (rw (x .0), inl (x .1))
+      go (inl y) (inr x) = inl (rw (x .0) (y .0), (x .1, y .1))
+      go (inr y) (inr x) = inr (rw (x .0) (y .0), inr (x .1, y .1))
+
+  -- each has no booking exactly when it has no choice, otherwise the best
+  turns-each : (b : Busy) (js : List Job) → All (λ (j : Job). 1 ≤ j .size) js → w .nodes ≤ length (b .free)
+      → InTurn (λ v c j. IsBooking (requestOf v c j) (c .free) (step v c j .booking)) w b js
+  turns-each b [] z h = tt
+  turns-each b (j ∷ js) z h =
+      (book-iff (requestOf w b j) (b .free) e h (z .0), turns-each (busyAfter w b j) js (z .1) (omega (arith, afters-length b (linesOf (w .costs) (step w b j)))))
 
 -- **The walk.** It books all exactly when each job has the best of all choices behind those before it; otherwise some job has no choice at all behind
 -- the best of those before it.
-pub walk-is : (w : Terms) (b : Busy) (js : List Job) → Ready w js → w .nodes ≤ length (b .free)
+pub walk-is : (w : Terms) (b : Busy) (js : List Job) → Ready w b js → w .nodes ≤ length (b .free)
     → ((booksAll w b js ≡ true) × BestAll w b js) ⊎ ((booksAll w b js ≡ false) × Fails w b js)
-unfolding booksAll
-walk-is w b [] r h = inl (refl, tt)
-walk-is w b (j ∷ js) r h =
-    go (walk-is w (busyAfter w b j) js (ready-next w j js r) (omega (arith, afters-length b (linesOf (w .costs) (step w b j)))))
-    (step-is w b j (r .answered) h (r .jobs .0 .0))
-  where
-    go : ((booksAll w (busyAfter w b j) js ≡ true) × BestAll w (busyAfter w b j) js) ⊎ ((booksAll w (busyAfter w b j) js ≡ false) × Fails w (busyAfter w b j) js)
-        → ((leb 1 (step w b j .booking .count) ≡ false) × NoChoice (requestOf w b j) (b .free))
-        ⊎ ((leb 1 (step w b j .booking .count) ≡ true) × Best (requestOf w b j) (b .free) (step w b j .booking))
-        → (((leb 1 (step w b j .booking .count) && booksAll w (busyAfter w b j) js) ≡ true) × BestAll w b (j ∷ js))
-        ⊎ (((leb 1 (step w b j .booking .count) && booksAll w (busyAfter w b j) js) ≡ false) × Fails w b (j ∷ js))
-    go rest (inl x) = inr (rw (x .0), inl (x .1))
-    go (inl y) (inr x) = inl (rw (x .0) (y .0), (x .1, y .1))
-    go (inr y) (inr x) = inr (rw (x .0) (y .0), inr (x .1, y .1))
+walk-is w b js r h = turns-are w (r .answered) b js (all-map (λ j x. x .0) js (r .jobs)) h
 
 -- Not each job has the best of all choices where one has none.
 best-or-fails : (w : Terms) (b : Busy) (js : List Job) → BestAll w b js → Fails w b js → ⊥
@@ -76,7 +87,7 @@ best-or-fails w b (j ∷ js) x (inr y) = best-or-fails w (busyAfter w b j) js (x
 
 -- **The walk, as equivalences.** It books all exactly when each job has the best of all choices behind those before it, and not all exactly when some job has no
 -- choice at all behind the best of those before it.
-pub walk-iff : (w : Terms) (b : Busy) (js : List Job) → Ready w js → w .nodes ≤ length (b .free)
+pub walk-iff : (w : Terms) (b : Busy) (js : List Job) → Ready w b js → w .nodes ≤ length (b .free)
     → ((booksAll w b js ≡ true) ↔ BestAll w b js) × ((booksAll w b js ≡ false) ↔ Fails w b js)
 walk-iff w b js r h =
     ⊎-elim (λ x. ((λ e. x .1, λ y. x .0), (λ e. absurd (false≢true (sym e ∙ x .0)), λ y. absurd (best-or-fails w b js (x .1) y))))
@@ -84,16 +95,12 @@ walk-iff w b js r h =
     (walk-is w b js r h)
 
 -- **Each job of the walk**, at its place: it has no booking exactly when it has no choice; otherwise the best of all choices, and no other.
-pub walk-each : (w : Terms) (b : Busy) (js : List Job) → Ready w js → w .nodes ≤ length (b .free)
+pub walk-each : (w : Terms) (b : Busy) (js : List Job) → Ready w b js → w .nodes ≤ length (b .free)
     → InTurn (λ v c j. IsBooking (requestOf v c j) (c .free) (step v c j .booking)) w b js
-walk-each w b [] r h = tt
-walk-each w b (j ∷ js) r h = (
-  book-iff (requestOf w b j) (b .free) (r .answered) h (r .jobs .0 .0),
-  walk-each w (busyAfter w b j) js (ready-next w j js r) (omega (arith, afters-length b (linesOf (w .costs) (step w b j)))),
-)
+walk-each w b js r h = turns-each w (r .answered) b js (all-map (λ j x. x .0) js (r .jobs)) h
 
 -- A walk that books all has the best of all choices for each job.
-pub walk-best : (w : Terms) (b : Busy) (js : List Job) → Ready w js → w .nodes ≤ length (b .free) → booksAll w b js ≡ true → BestAll w b js
+pub walk-best : (w : Terms) (b : Busy) (js : List Job) → Ready w b js → w .nodes ≤ length (b .free) → booksAll w b js ≡ true → BestAll w b js
 walk-best w b js r h = walk-iff w b js r h .0 .0
 
 -- What is walked is the waiting jobs and the new one, each once, by deadline, equal deadlines by number.

@@ -8,3 +8,4 @@ pub mod WalkSteps
 pub mod NodeOrder
 pub mod BestWalk
 pub mod Plan
+pub mod Walking

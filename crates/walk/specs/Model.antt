@@ -110,10 +110,14 @@ fitAll b (x ∷ xs) = leb (b .link) (x .chunk .start) && leb (freeAt (b .free) (
 
 -- ---- The deadline walk
 
--- keys of the jobs at places i, i + 1, …, by a time of theirs, equal ones by number
+-- the key of a job at place i, by a time of its, equal ones by number
+abbrev pub keyOf : (Job → ℕ) → ℕ → Job → Key
+keyOf t i j = record { time = t j; number = j .number; place = i }
+
+-- keys of the jobs at places i, i + 1, …
 unfoldable pub keysBy : (Job → ℕ) → ℕ → List Job → List Key
 keysBy t i [] = []
-keysBy t i (j ∷ js) = record { time = t j; number = j .number; place = i } ∷ keysBy t (suc i) js
+keysBy t i (j ∷ js) = keyOf t i j ∷ keysBy t (suc i) js
 
 -- the jobs in the order of their keys
 abbrev pub inOrder : List Job → List Key → List Job

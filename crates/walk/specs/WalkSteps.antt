@@ -1,15 +1,15 @@
 -- What `walked` starts from and comes to, and its loop's steps, one job each.
 use mathlib.Core.Path.{_≡_, ap, sym, _∙_}
-use mathlib.Core.List.{List, _++_, append-assoc}
-use mathlib.Core.Bool.{Bool, true, _&&_}
+use mathlib.Core.List.{List, [], _∷_, _++_, append-assoc}
+use mathlib.Core.Bool.{true, _&&_}
 use mathlib.Core.Logic.{⊎-elim}
 use Prim.Native.Nat.{ℕ, _+_, _≤_, _<_}
 use native.Mathlib.Numerals.{add-one}
 use native.Mathlib.Omega.{arith}
 use lib.ListN.{length, getD, take, drop, set}
 use lib.Dec.{leb}
-use lib.Seq.{take-suc-set}
-use Rattle.lists.specs.Laws.{All, all-map, front-next}
+use lib.Seq.{take-suc-set, drop-cons}
+use Rattle.lists.specs.Laws.{All, all-map}
 use Rattle.shares.specs.Model.{answers}
 use Rattle.booking.specs.declared.Request.{Request}
 use Rattle.booking.specs.declared.Booking.{Booking}
@@ -21,18 +21,22 @@ use Rattle.booking.specs.Booked.{book-is}
 use Rattle.walk.specs.declared.Job.{Job}
 use Rattle.walk.specs.declared.Terms.{Terms}
 use Rattle.walk.specs.declared.Busy.{Busy}
-use Rattle.walk.specs.Model.{greatest, noJob, requestOf, step, busyAfter, plan, booksAll}
+use Rattle.walk.specs.declared.Plan.{Plan}
+use Rattle.walk.specs.Model.{greatest, noJob, byDeadline, requestOf, step, busyAfter, plan, booksAll}
 use Rattle.walk.specs.Chunks.{Sends}
 
--- what a walk starts from: costs and nodes for which the shares answer, and jobs of at least one unit with a deadline in the time range
-pub record Ready (w : Terms) (js : List Job) : Type 0 where
+-- what a walk starts from: costs and nodes for which the shares answer, free times in the time range, and jobs of at least one unit with a deadline in it
+pub record Ready (w : Terms) (b : Busy) (js : List Job) : Type 0 where
   pub answered : answers (w .costs) (w .nodes) ≡ true
+  pub free : All (λ (t : ℕ). t ≤ greatest) (take (w .nodes) (b .free))
   pub jobs : All (λ (j : Job). (1 ≤ j .size) × (j .deadline ≤ greatest)) js
 
 -- what it comes to
-pub record Walked (w : Terms) (b : Busy) (n : ℕ) (jobs : List Job) (ok : Bool) (out : List Job) : Type 0 where
-  pub books : ok ≡ booksAll w b (take n jobs)
-  pub plans : ok ≡ true → out ≡ plan w b (take n jobs) ++ drop n jobs
+pub record Walked (w : Terms) (b : Busy) (jobs : List Job) (n : ℕ) (job : Job) (r : Plan) : Type 0 where
+  pub books : r .ok ≡ booksAll w b (byDeadline (take n jobs ++ job ∷ []))
+  pub plans : r .ok ≡ true → r .jobs ≡ plan w b (byDeadline (take n jobs ++ job ∷ [])) ++ drop (n + 1) jobs
+  -- the new job is at this place
+  pub place : r .ok ≡ true → (r .place ≤ n) × (getD (r .jobs) (r .place) noJob .number ≡ job .number)
 
 -- A job that is booked has the best of all choices behind those before it.
 pub step-best : (w : Terms) (b : Busy) (j : Job) → answers (w .costs) (w .nodes) ≡ true → w .nodes ≤ length (b .free) → 1 ≤ j .size
@@ -55,18 +59,18 @@ best-sends q free j f h d x =
       ends = omega (arith, x .best .choice .ends);
     }
 
--- The first n jobs of an array, of which the one at place i comes next.
-module _ (w : Terms) (jobs : List Job) (n i : ℕ) (h : i < n) (f : n ≤ length jobs) (b : Busy) where
+-- Jobs in a row, of which the one at place i comes next.
+module _ (w : Terms) (queue : List Job) (i : ℕ) (h : i < length queue) (b : Busy) where
   abbrev next : Job
-  next = getD jobs i noJob
+  next = getD queue i noJob
 
   -- All are booked if it is, and those behind it.
-  pub books-next : booksAll w b (drop i (take n jobs)) ≡ (leb 1 (step w b next .booking .count) && booksAll w (busyAfter w b next) (drop (i + 1) (take n jobs)))
+  pub books-next : booksAll w b (drop i queue) ≡ (leb 1 (step w b next .booking .count) && booksAll w (busyAfter w b next) (drop (i + 1) queue))
   unfolding booksAll
-  books-next = rw (front-next noJob jobs n i h f)
+  books-next = rw (add-one i, drop-cons queue i noJob h)
 
   -- The plan has it next.
-  pub plan-next : (out : List Job) → i < length out → (whole : List Job) → whole ≡ take i out ++ plan w b (drop i (take n jobs))
-      → whole ≡ take (i + 1) (set out i (step w b next)) ++ plan w (busyAfter w b next) (drop (i + 1) (take n jobs))
+  pub plan-next : (out : List Job) → i < length out → (whole : List Job) → whole ≡ take i out ++ plan w b (drop i queue)
+      → whole ≡ take (i + 1) (set out i (step w b next)) ++ plan w (busyAfter w b next) (drop (i + 1) queue)
   unfolding plan
-  plan-next out k whole e = e ∙ rw (front-next noJob jobs n i h f, add-one i, take-suc-set out i (step w b next) k, append-assoc)
+  plan-next out k whole e = e ∙ rw (add-one i, drop-cons queue i noJob h, take-suc-set out i (step w b next) k, append-assoc)

@@ -1,9 +1,10 @@
 -- `timetable::begin::occupied_by` meets its contract: the jobs left, behind those passed, leave what all of them leave.
-use mathlib.Core.Path.{_≡_, refl, sym, _∙_}
-use Prim.Native.Nat.{_-_, _≤_}
+use mathlib.Core.Path.{_≡_, refl, sym, ap, _∙_}
+use Prim.Native.Nat.{_+_, _-_, _≤_}
 use native.Mathlib.Omega.{arith}
 use lib.ListN.{take, drop}
 use Rattle.lists.specs.Laws.{front-none, all-front}
+use Rattle.walk.specs.declared.Busy.{Busy}
 use Rattle.walk.specs.Model.{noJob, afters}
 use Rattle.walk.specs.Chunks.{Sends}
 use Rattle.timetable.specs.Model.{linesOfAll}
@@ -13,10 +14,12 @@ use Rattle.timetable.proofs.begin.occupied_by.Statement.{statement}
 use Rattle.timetable.proofs.begin.occupied_by.Tie as tie
 
 abbrev Inv-loop : tie.InvT-loop
-Inv-loop costs count jobs now₀ i₀ now i = (i ≤ count) × (afters now₀ (linesOfAll costs (take count jobs)) ≡ afters now (linesOfAll costs (drop i (take count jobs))))
+Inv-loop costs count jobs free₀ link₀ i₀ free link i =
+    (i ≤ count)
+    × (afters (record { link = link₀; free = free₀ }) (linesOfAll costs (take count jobs)) ≡ afters (record { link = link; free = free }) (linesOfAll costs (drop i (take count jobs))))
 
 abbrev μ-loop : tie.MeasureT-loop
-μ-loop costs count jobs now₀ i₀ now i = count - i
+μ-loop costs count jobs free₀ link₀ i₀ free link i = count - i
 
 loop-holds : tie.Need-loop-holds Inv-loop μ-loop
 loop-holds c = (omega arith, refl)
@@ -29,9 +32,10 @@ array-copy-out-occupied c = search needs
 
 occupied-requires : tie.Need-occupied-requires Inv-loop μ-loop
 occupied-requires c κs =
-    let a = c .before .before .before .args in
-    let l = c .before .before .loop in
-    all-front noJob (Sends (a .costs)) (a .t3) (a .count) (l .i) (c .before .loop-test .taken) (omega arith) (c .before .before .before .pre .1)
+    let s = c .before .before .before .before .before in
+    let a = s .args in
+    let l = c .before .before .before .loop in
+    all-front noJob (Sends (a .costs)) (a .t3) (a .count) (l .i) (c .before .before .loop-test .taken) (omega arith) (s .pre .1)
 
 add-i : tie.Need-add-i Inv-loop μ-loop
 add-i c = search needs
@@ -41,14 +45,16 @@ loop-less c = search needs
 
 loop-again : tie.Need-loop-again Inv-loop μ-loop
 loop-again c =
-    let a = c .before .before .before .before .args in
-    let l = c .before .before .before .loop in
-    (omega arith, l .inv .1 ∙ afters-next (a .t3) (a .count) (l .i) (c .before .before .loop-test .taken) (omega arith) (a .costs) (l .now) ∙ rw (c .occupied .ensures))
+    let a = c .before .before .before .before .before .before .args in
+    let l = c .before .before .before .before .loop in
+    let rest = linesOfAll (a .costs) (drop (l .i + 1) (take (a .count) (a .t3))) in
+    let next = afters-next (a .t3) (a .count) (l .i) (c .before .before .before .loop-test .taken) (omega arith) (a .costs) (record { link = l .link; free = l .free }) in
+    (omega arith, l .inv .1 ∙ next ∙ ap (λ (b : Busy). afters b rest) (sym (c .occupied .ensures)))
 
 returns : tie.Need-returns Inv-loop μ-loop
 unfolding linesOfAll afters
 returns c =
-    let a = c .before .before .args in
+    let a = c .before .before .before .args in
     let l = c .before .loop in
     let none = front-none (a .t3) (a .count) (l .i) (omega arith) (c .loop-test .left) in
     sym (l .inv .1 ∙ rw none)
