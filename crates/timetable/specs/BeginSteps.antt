@@ -108,27 +108,31 @@ none-by t (j ∷ js) e = go (startsBy t j) refl e (none-by t js)
     go true q h r = absurd (false≢true (sym h))
     go false q h r = (q, r h)
 
--- ---- The jobs that wait on
+-- ---- What is kept of an array
 
--- kept jobs at the front of out, the old array behind them, and what is still to come
-pub record Kept (whole jobs out : List Job) (kept : ℕ) (rest : List Job) : Type 0 where
+-- kept elements at the front of out, the old array behind them, and what is still to come
+pub record Kept {A : Type 0} (whole old out : List A) (kept : ℕ) (rest : List A) : Type 0 where
   pub size : length out ≡ 128
   pub front : whole ≡ take kept out ++ rest
-  pub behind : drop kept out ≡ drop kept jobs
+  pub behind : drop kept out ≡ drop kept old
 
-pub kept-more : (whole jobs out : List Job) (k : ℕ) (j : Job) (rest : List Job) → k < 128 → Kept whole jobs out k (j ∷ rest) → Kept whole jobs (set out k j) (k + 1) rest
-kept-more whole jobs out k j rest h x =
-    let s = x .size in
-    let t : take (k + 1) (set out k j) ≡ take k out ++ j ∷ [] = rw (add-one k) (take-suc-set out k j (omega arith)) in
+pub kept-more : {A : Type 0} (whole old out : List A) (k : ℕ) (x : A) (rest : List A) → k < 128 → Kept whole old out k (x ∷ rest) → Kept whole old (set out k x) (k + 1) rest
+kept-more {A} whole old out k x rest h y =
+    let s = y .size in
+    let t : take (k + 1) (set out k x) ≡ take k out ++ x ∷ [] = rw (add-one k) (take-suc-set out k x (omega arith)) in
     record {
-      size = length-set out k j ∙ s;
-      front = x .front ∙ sym (ap (λ (y : List Job). y ++ rest) t ∙ append-assoc (take k out) _ rest);
-      behind = rest-more out jobs k j (x .behind);
+      size = length-set out k x ∙ s;
+      front = y .front ∙ sym (ap (λ (l : List A). l ++ rest) t ∙ append-assoc (take k out) _ rest);
+      behind = rest-more out old k x (y .behind);
     }
 
--- At the end the array is the kept jobs with the old ones behind them.
-pub kept-all : (whole jobs out : List Job) (k : ℕ) → k ≤ 128 → Kept whole jobs out k [] → (k ≡ length whole) × (out ≡ whole ++ drop k jobs)
-kept-all whole jobs out k h x =
+-- At the end what is kept is the front.
+pub kept-front : {A : Type 0} (whole old out : List A) (k : ℕ) → Kept whole old out k [] → take k out ≡ whole
+kept-front whole old out k x = sym (x .front ∙ append-nil (take k out))
+
+-- The array is what is kept with the old elements behind it.
+pub kept-all : {A : Type 0} (whole old out : List A) (k : ℕ) → k ≤ 128 → Kept whole old out k [] → (k ≡ length whole) × (out ≡ whole ++ drop k old)
+kept-all whole old out k h x =
     let s = x .size in
-    let e : whole ≡ take k out = x .front ∙ append-nil (take k out) in
-    (sym (ap length e ∙ length-take-le k out (omega arith)), sym (take-append-drop k out) ∙ ap₂ _++_ (sym e) (x .behind))
+    let e : take k out ≡ whole = kept-front whole old out k x in
+    (sym (sym (ap length e) ∙ length-take-le k out (omega arith)), sym (take-append-drop k out) ∙ ap₂ _++_ e (x .behind))

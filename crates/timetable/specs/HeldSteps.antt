@@ -4,7 +4,6 @@ use mathlib.Core.List.{List, [], _∷_, _++_}
 use Prim.Native.Nat.{ℕ, zero, suc, _+_, _*_, _-_, _≤_, _<_}
 use native.Mathlib.Omega.{arith}
 use lib.ListN.{length, getD, take, drop, set, length-set}
-use lib.Seq.{getD-set-same}
 use Rattle.lists.specs.Laws.{all-front, front-next}
 use Rattle.shares.specs.declared.Costs.{Costs}
 use Rattle.shares.specs.Model.{sendEnd, chunkFinish, finish}
@@ -31,9 +30,6 @@ raised-length hs [] = refl
 raised-length hs (x ∷ xs) = raised-length _ xs ∙ length-set hs _ _
 
 -- A cell grows by at most what is added.
-pub add-same : (hs : List ℕ) (k a : ℕ) → k < length hs → getD (addTo hs k a) k 0 ≡ getD hs k 0 + a
-add-same hs k a h = getD-set-same hs k (getD hs k 0 + a) 0 h
-
 add-most : (hs : List ℕ) (p k a : ℕ) → getD (addTo hs p a) k 0 ≤ getD hs k 0 + a
 add-most [] p k a = omega arith
 add-most (x ∷ hs) zero zero a = omega arith
@@ -61,22 +57,19 @@ job-most c hs j k x =
 -- where the loop over a job's chunks stands at chunk i, whose send begins at t: the chunks left raise the cells to what all of them make of the
 -- first ones, and what has been added is bounded
 pub record Raising (c : Costs) (j : Job) (first cells : List ℕ) (t i : ℕ) : Type 0 where
-  pub size : length cells ≡ 32
   pub same : raised first (spansOf c j) ≡ raised cells (placed (j .booking .start) (linesFrom c j i t))
   pub ends : latestFrom c j i t ≤ greatest
   pub from : j .booking .start ≤ t
   pub most : getD cells (j .show - 1) 0 ≤ getD first (j .show - 1) 0 + i * greatest
 
 -- The next chunk raises its show's cell.
-pub raising-next : (c : Costs) (j : Job) (s : Sends c j) (first cells : List ℕ) (t i : ℕ) → i < j .booking .count → (1 ≤ j .show) × (j .show ≤ 32) → Raising c j first cells t i
+pub raising-next : (c : Costs) (j : Job) (s : Sends c j) (first cells : List ℕ) (t i : ℕ) → i < j .booking .count → Raising c j first cells t i
     → Raising c j first (addTo cells (j .show - 1) (chunkAt c j i t .finish - j .booking .start)) (chunkAt c j i t .sent) (i + 1)
 unfolding raised
-raising-next c j s first cells t i h k x =
-    let z = x .size in
+raising-next c j s first cells t i h x =
     let n = ends-next c j s i t h (x .ends) in
-    let more = add-same cells (j .show - 1) (chunkAt c j i t .finish - j .booking .start) (omega arith) in
+    let more = add-most cells (j .show - 1) (j .show - 1) (chunkAt c j i t .finish - j .booking .start) in
     record {
-      size = length-set cells (j .show - 1) _ ∙ x .size;
       same = x .same ∙ ap (λ (xs : List Chunk). raised cells (placed (j .booking .start) xs)) (lines-next c j s i t h);
       ends = n .1;
       from = omega (arith, x .from);

@@ -1,4 +1,4 @@
--- The jobs of a list that pass a test; of jobs in order of start, those that start by a time stand before the others.
+-- The elements of a list that pass a test; of jobs in order of start, those that start by a time stand before the others.
 use mathlib.Core.Path.{_≡_, refl, ap, subst}
 use mathlib.Core.List.{List, [], _∷_, _++_, List·Permᴰ, List·Permᴰ·nil, List·Permᴰ·cons, List·Permᴰ·swap, List·Permᴰ·trans, Permᴰ·refl}
 use mathlib.Core.Bool.{Bool, true, false, cond, not}
@@ -10,30 +10,30 @@ use Rattle.lists.specs.Laws.{All, Pairs, all-map}
 use Rattle.walk.specs.declared.Job.{Job}
 use Rattle.timetable.specs.Model.{startsBy, startsAfter, keep}
 
-module _ (p : Job → Bool) where
-  -- What holds of all jobs holds of those that pass, and they pass.
-  pub keep-all : (P : Job → Type 0) (js : List Job) → All P js → All (λ (j : Job). P j × (p j ≡ true)) (keep p js)
+module _ {A : Type 0} (p : A → Bool) where
+  -- What holds of all holds of those that pass, and they pass.
+  pub keep-all : (P : A → Type 0) (js : List A) → All P js → All (λ (j : A). P j × (p j ≡ true)) (keep p js)
   unfolding keep
   keep-all P [] h = tt
   keep-all P (j ∷ js) h = go (p j) refl (keep-all P js (h .1))
     where
-      go : (b : Bool) → p j ≡ b → All (λ (j : Job). P j × (p j ≡ true)) (keep p js) → All (λ (j : Job). P j × (p j ≡ true)) (cond b (j ∷ keep p js) (keep p js))
+      go : (b : Bool) → p j ≡ b → All (λ (j : A). P j × (p j ≡ true)) (keep p js) → All (λ (j : A). P j × (p j ≡ true)) (cond b (j ∷ keep p js) (keep p js))
       go true e r = ((h .0, e), r)
       go false e r = r
 
   -- None pass where each fails.
-  pub keep-none : (js : List Job) → All (λ (j : Job). p j ≡ false) js → keep p js ≡ []
+  pub keep-none : (js : List A) → All (λ (j : A). p j ≡ false) js → keep p js ≡ []
   unfolding keep
   keep-none [] h = refl
   keep-none (j ∷ js) h = rw (h .0) (keep-none js (h .1))
 
-  pub keep-every : (js : List Job) → All (λ (j : Job). p j ≡ true) js → keep p js ≡ js
+  pub keep-every : (js : List A) → All (λ (j : A). p j ≡ true) js → keep p js ≡ js
   unfolding keep
   keep-every [] h = refl
-  keep-every (j ∷ js) h = rw (h .0) (ap (λ (l : List Job). j ∷ l) (keep-every js (h .1)))
+  keep-every (j ∷ js) h = rw (h .0) (ap (λ (l : List A). j ∷ l) (keep-every js (h .1)))
 
   -- Those that pass are no more.
-  pub keep-length : (js : List Job) → length (keep p js) ≤ length js
+  pub keep-length : (js : List A) → length (keep p js) ≤ length js
   unfolding keep
   keep-length [] = omega arith
   keep-length (j ∷ js) = go (p j) (keep-length js)
@@ -42,25 +42,25 @@ module _ (p : Job → Bool) where
       go true h = omega arith
       go false h = omega arith
 
-  cond-cons : (b : Bool) (j : Job) (xs ys : List Job) → List·Permᴰ xs ys → List·Permᴰ (cond b (j ∷ xs) xs) (cond b (j ∷ ys) ys)
+  cond-cons : (b : Bool) (j : A) (xs ys : List A) → List·Permᴰ xs ys → List·Permᴰ (cond b (j ∷ xs) xs) (cond b (j ∷ ys) ys)
   cond-cons true j xs ys d = List·Permᴰ·cons refl d
   cond-cons false j xs ys d = d
 
-  cond-swap : (a b : Bool) (i j : Job) (xs : List Job) → List·Permᴰ (cond a (i ∷ cond b (j ∷ xs) xs) (cond b (j ∷ xs) xs)) (cond b (j ∷ cond a (i ∷ xs) xs) (cond a (i ∷ xs) xs))
+  cond-swap : (a b : Bool) (i j : A) (xs : List A) → List·Permᴰ (cond a (i ∷ cond b (j ∷ xs) xs) (cond b (j ∷ xs) xs)) (cond b (j ∷ cond a (i ∷ xs) xs) (cond a (i ∷ xs) xs))
   cond-swap true true i j xs = List·Permᴰ·swap refl refl
   cond-swap true false i j xs = Permᴰ·refl (i ∷ xs)
   cond-swap false true i j xs = Permᴰ·refl (j ∷ xs)
   cond-swap false false i j xs = Permᴰ·refl xs
 
-  -- Of the same jobs in another order the same pass.
-  pub keep-perm : {xs ys : List Job} → List·Permᴰ xs ys → List·Permᴰ (keep p xs) (keep p ys)
+  -- Of the same in another order the same pass.
+  pub keep-perm : {xs ys : List A} → List·Permᴰ xs ys → List·Permᴰ (keep p xs) (keep p ys)
   unfolding keep
   keep-perm List·Permᴰ·nil = List·Permᴰ·nil
   keep-perm (List·Permᴰ·cons {a = a} {b = b} {l₁ = l₁} {l₂ = l₂} e d) =
-      subst (λ (x : Job). List·Permᴰ (keep p (a ∷ l₁)) (keep p (x ∷ l₂))) e (cond-cons (p a) a (keep p l₁) (keep p l₂) (keep-perm d))
+      subst (λ (x : A). List·Permᴰ (keep p (a ∷ l₁)) (keep p (x ∷ l₂))) e (cond-cons (p a) a (keep p l₁) (keep p l₂) (keep-perm d))
   keep-perm (List·Permᴰ·swap {a = a} {b = b} {a′ = a′} {b′ = b′} {l = l} e g) =
-      subst (λ (x : Job). List·Permᴰ (keep p (a ∷ b ∷ l)) (keep p (x ∷ b′ ∷ l))) g
-      (subst (λ (y : Job). List·Permᴰ (keep p (a ∷ b ∷ l)) (keep p (b ∷ y ∷ l))) e (cond-swap (p a) (p b) a b (keep p l)))
+      subst (λ (x : A). List·Permᴰ (keep p (a ∷ b ∷ l)) (keep p (x ∷ b′ ∷ l))) g
+      (subst (λ (y : A). List·Permᴰ (keep p (a ∷ b ∷ l)) (keep p (b ∷ y ∷ l))) e (cond-swap (p a) (p b) a b (keep p l)))
   keep-perm (List·Permᴰ·trans d₁ d₂) = List·Permᴰ·trans (keep-perm d₁) (keep-perm d₂)
 
 -- Of jobs in order of start, those that start by t stand before the others.

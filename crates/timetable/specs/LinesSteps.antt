@@ -1,46 +1,56 @@
 -- Lines in lent memory, one by one: what the functions of src/lines.rt promise each other.
 use mathlib.Core.Path.{_≡_, refl, ap, sym, _∙_}
-use mathlib.Core.List.{List, [], _∷_, _++_, append-assoc}
+use mathlib.Core.List.{List, [], _∷_, _++_, map, append-assoc}
 use Prim.Native.Nat.{ℕ, suc, _+_, _-_, _≤_, _<_}
-use native.Mathlib.Numerals.{add-one}
 use native.Mathlib.Omega.{arith}
-use lib.ListN.{length, getD, take, drop, set, length-append, length-drop, take-append-drop}
+use lib.ListN.{length, getD, take, drop, set, length-append, length-drop, length-map, take-append-drop}
 use lib.Seq.{take-suc-set, drop-set-lt, drop-drop, length-take-le, take-at, drop-at}
-use Rattle.lists.specs.Laws.{All, all-front, front-next, front-none}
+use Rattle.lists.specs.Laws.{All, all-front, image-all, map-join, front-next, front-none}
 use Rattle.shares.specs.declared.Costs.{Costs}
 use Rattle.shares.specs.Model.{sendEnd}
+use Rattle.keys.specs.declared.Key.{Key}
+use Rattle.keys.specs.Model.{noKey}
 use Rattle.walk.specs.declared.Job.{Job}
 use Rattle.walk.specs.declared.Chunk.{Chunk}
-use Rattle.walk.specs.Model.{noJob, chunkAt, chunksFrom, linesOf}
+use Rattle.walk.specs.Model.{noJob, chunkAt, chunksFrom, linesOf, inOrder}
 use Rattle.walk.specs.Chunks.{Sends, linesFrom, lines-none, lines-next}
 use Rattle.booking.specs.Best.{chosen, units}
-use Rattle.timetable.specs.Model.{linesOfAll}
+use Rattle.timetable.specs.Model.{linesOfAll, rowOf}
 use Rattle.timetable.specs.BeginSteps.{chunks}
 
 -- memory of which the first n records stand, then come these lines, and from place e on it is what it is
-abbrev pub Filled : List Chunk → ℕ → List Chunk → ℕ → List Chunk
+abbrev pub Filled : {A : Type 0} → List A → ℕ → List A → ℕ → List A
 Filled l n xs e = take n l ++ (xs ++ drop e l)
 
 -- A line is stored where it belongs.
-pub filled-next : (l : List Chunk) (n e : ℕ) (x : Chunk) (xs : List Chunk) → n < e → e ≤ length l → Filled l n (x ∷ xs) e ≡ Filled (set l n x) (n + 1) xs e
-filled-next l n e x xs h k = rw (add-one n, take-suc-set l n x (omega arith), drop-set-lt e l n x h, append-assoc)
+pub filled-next : {A : Type 0} (l : List A) (at i e : ℕ) (x : A) (xs ys : List A) → ys ≡ x ∷ xs → at + i < e → e ≤ length l → Filled l (at + i) ys e ≡ Filled (set l (at + i) x) (at + (i + 1)) xs e
+filled-next l at i e x xs ys q h k =
+    let n : at + (i + 1) ≡ suc (at + i) = omega arith in
+    rw (q, n, take-suc-set l (at + i) x (omega arith), drop-set-lt e l (at + i) x h, append-assoc)
 
 -- All are stored.
-pub filled-all : (l : List Chunk) (e : ℕ) → Filled l e [] e ≡ l
+pub filled-all : {A : Type 0} (l : List A) (e : ℕ) → Filled l e [] e ≡ l
 filled-all l e = take-append-drop e l
 
-module _ (c : Costs) (j : Job) (s : Sends c j) (at : ℕ) (l : List Chunk) (k : at + j .booking .count ≤ length l) where
-  -- The job's lines, one further.
-  pub job-next : (i t : ℕ) → i < j .booking .count
-      → Filled l (at + i) (linesFrom c j i t) (at + j .booking .count) ≡ Filled (set l (at + i) (chunkAt c j i t)) (at + (i + 1)) (linesFrom c j (i + 1) (chunkAt c j i t .sent)) (at + j .booking .count)
-  job-next i t h =
-      let e : at + i + 1 ≡ at + (i + 1) = omega arith in
-      ap (λ (xs : List Chunk). Filled l (at + i) xs (at + j .booking .count)) (lines-next c j s i t h)
-      ∙ filled-next l (at + i) (at + j .booking .count) (chunkAt c j i t) (linesFrom c j (i + 1) (chunkAt c j i t .sent)) (omega arith) k
-      ∙ ap (λ (n : ℕ). Filled (set l (at + i) (chunkAt c j i t)) n (linesFrom c j (i + 1) (chunkAt c j i t .sent)) (at + j .booking .count)) e
+module _ (c : Costs) (j : Job) (s : Sends c j) (at : ℕ) where
+  abbrev end : ℕ
+  end = at + j .booking .count
 
-  pub job-written : (t : ℕ) → Filled l (at + j .booking .count) (linesFrom c j (j .booking .count) t) (at + j .booking .count) ≡ l
-  job-written t = ap (λ (xs : List Chunk). Filled l (at + j .booking .count) xs (at + j .booking .count)) (lines-none c j s (j .booking .count) t (omega arith)) ∙ filled-all l (at + j .booking .count)
+  -- The job's lines, one further: as records, and as rows.
+  pub job-next : (l : List Chunk) → end ≤ length l → (i t : ℕ) → i < j .booking .count
+      → Filled l (at + i) (linesFrom c j i t) end ≡ Filled (set l (at + i) (chunkAt c j i t)) (at + (i + 1)) (linesFrom c j (i + 1) (chunkAt c j i t .sent)) end
+  job-next l k i t h = filled-next l at i end (chunkAt c j i t) (linesFrom c j (i + 1) (chunkAt c j i t .sent)) (linesFrom c j i t) (lines-next c j s i t h) (omega arith) k
+
+  pub row-next : (l : List (List ℕ)) → end ≤ length l → (i t : ℕ) → i < j .booking .count
+      → Filled l (at + i) (map rowOf (linesFrom c j i t)) end ≡ Filled (set l (at + i) (rowOf (chunkAt c j i t))) (at + (i + 1)) (map rowOf (linesFrom c j (i + 1) (chunkAt c j i t .sent))) end
+  row-next l k i t h =
+      filled-next l at i end (rowOf (chunkAt c j i t)) (map rowOf (linesFrom c j (i + 1) (chunkAt c j i t .sent))) (map rowOf (linesFrom c j i t)) (ap (map rowOf) (lines-next c j s i t h)) (omega arith) k
+
+  pub job-written : (l : List Chunk) (t : ℕ) → Filled l end (linesFrom c j (j .booking .count) t) end ≡ l
+  job-written l t = ap (λ (xs : List Chunk). Filled l end xs end) (lines-none c j s (j .booking .count) t (omega arith)) ∙ filled-all l end
+
+  pub row-written : (l : List (List ℕ)) (i t : ℕ) → j .booking .count ≡ i → Filled l (at + i) (map rowOf (linesFrom c j i t)) end ≡ l
+  row-written l i t e = rw (← e, lines-none c j s (j .booking .count) t (omega arith)) (filled-all l end)
 
 -- ---- Several jobs
 
@@ -62,8 +72,8 @@ all-lines c [] h = refl
 all-lines c (j ∷ js) h = length-append (linesOf c j) (linesOfAll c js) ∙ omega (arith, job-lines c j (h .0), all-lines c js (h .1))
 
 -- Lines are stored behind one another.
-pub filled-more : (l xs ys : List Chunk) (n m e : ℕ) → length xs ≡ m → n + m ≤ e → e ≤ length l → Filled l n (xs ++ ys) e ≡ Filled (Filled l n xs (n + m)) (n + m) ys e
-filled-more l xs ys n m e f h k =
+pub filled-more : {A : Type 0} (l xs ys : List A) (n m e : ℕ) → length xs ≡ m → n + m ≤ e → e ≤ length l → Filled l n (xs ++ ys) e ≡ Filled (Filled l n xs (n + m)) (n + m) ys e
+filled-more {A} l xs ys n m e f h k =
     let q = n + m in
     let p : length (take n l ++ xs) ≡ q = length-append (take n l) xs ∙ omega (arith, f, length-take-le n l (omega arith)) in
     let whole : Filled l n xs q ≡ (take n l ++ xs) ++ drop q l = sym (append-assoc (take n l) xs (drop q l)) in
@@ -72,10 +82,10 @@ filled-more l xs ys n m e f h k =
     let split : q + (e - q) ≡ e = omega arith in
     let past : drop e (Filled l n xs q) ≡ drop e l =
     ap (λ (i : ℕ). drop i (Filled l n xs q)) (sym split) ∙ sym (drop-drop (e - q) q (Filled l n xs q)) ∙ ap (drop (e - q)) back ∙ drop-drop (e - q) q l ∙ ap (λ (i : ℕ). drop i l) split in
-    ap (λ (t : List Chunk). take n l ++ t) (append-assoc xs ys (drop e l)) ∙ sym (append-assoc (take n l) xs (ys ++ drop e l))
-    ∙ sym (ap (λ (t : List Chunk). t ++ (ys ++ drop e (Filled l n xs q))) front ∙ ap (λ (t : List Chunk). (take n l ++ xs) ++ (ys ++ t)) past)
+    ap (λ (t : List A). take n l ++ t) (append-assoc xs ys (drop e l)) ∙ sym (append-assoc (take n l) xs (ys ++ drop e l))
+    ∙ sym (ap (λ (t : List A). t ++ (ys ++ drop e (Filled l n xs q))) front ∙ ap (λ (t : List A). (take n l ++ xs) ++ (ys ++ t)) past)
 
-pub filled-length : (l xs : List Chunk) (n m : ℕ) → length xs ≡ m → n + m ≤ length l → length (Filled l n xs (n + m)) ≡ length l
+pub filled-length : {A : Type 0} (l xs : List A) (n m : ℕ) → length xs ≡ m → n + m ≤ length l → length (Filled l n xs (n + m)) ≡ length l
 filled-length l xs n m f h =
     length-append (take n l) (xs ++ drop (n + m) l) ∙ omega (arith, f, length-append xs (drop (n + m) l), length-take-le n l (omega arith), length-drop (n + m) l)
 
@@ -101,3 +111,56 @@ all-stored c jobs n k l e h f =
 pub chunks-none : (jobs : List Job) (n k : ℕ) → n ≤ k → n ≤ length jobs → chunks (drop k (take n jobs)) ≡ 0
 unfolding chunks
 chunks-none jobs n k h f = ap chunks (front-none jobs n k f h)
+
+-- ---- The jobs that keys name, as rows
+
+-- where the loop over the first n keys stands at key k, with `at` rows written: those left fill the memory to what all make of the first
+pub record Writing (c : Costs) (jobs : List Job) (keys : List Key) (n : ℕ) (first rows : List (List ℕ)) (at k : ℕ) : Type 0 where
+  pub size : length rows ≡ length first
+  pub same : Filled first 0 (map rowOf (linesOfAll c (inOrder jobs (take n keys)))) (chunks (inOrder jobs (take n keys)))
+      ≡ Filled rows at (map rowOf (linesOfAll c (inOrder jobs (drop k (take n keys))))) (chunks (inOrder jobs (take n keys)))
+  pub left : at + chunks (inOrder jobs (drop k (take n keys))) ≡ chunks (inOrder jobs (take n keys))
+
+module _ (c : Costs) (jobs : List Job) (keys : List Key) (n k : ℕ) (h : k < n) (f : n ≤ length keys) (first rows : List (List ℕ)) (at : ℕ) (x : Writing c jobs keys n first rows at k) where
+  abbrev named : Job
+  named = getD jobs (getD keys k noKey .place) noJob
+
+  -- Its lines have room.
+  pub writing-room : at + named .booking .count ≤ chunks (inOrder jobs (take n keys))
+  unfolding chunks
+  writing-room =
+      let e : chunks (inOrder jobs (drop k (take n keys))) ≡ named .booking .count + chunks (inOrder jobs (drop (k + 1) (take n keys))) = rw (front-next noKey keys n k h f) in
+      omega (arith, x .left)
+
+  -- They are written, and those of the others come next.
+  pub writing-next : Sends c named → chunks (inOrder jobs (take n keys)) ≤ length first
+      → Writing c jobs keys n first (Filled rows at (map rowOf (linesOf c named)) (at + named .booking .count)) (at + named .booking .count) (k + 1)
+  unfolding linesOfAll chunks
+  writing-next s fits =
+      let size = x .size in
+      let room = writing-room in
+      let rest = inOrder jobs (drop (k + 1) (take n keys)) in
+      let next = front-next noKey keys n k h f in
+      let many : length (map rowOf (linesOf c named)) ≡ named .booking .count = length-map (linesOf c named) rowOf ∙ job-lines c named s in
+      let e : chunks (inOrder jobs (drop k (take n keys))) ≡ named .booking .count + chunks rest = rw next in
+      let split : map rowOf (linesOfAll c (inOrder jobs (drop k (take n keys)))) ≡ map rowOf (linesOf c named) ++ map rowOf (linesOfAll c rest) = rw next (map-join rowOf (linesOf c named) (linesOfAll c rest)) in
+      record {
+        size = filled-length rows (map rowOf (linesOf c named)) at (named .booking .count) many (omega arith) ∙ size;
+        same = x .same ∙ rw split (filled-more rows (map rowOf (linesOf c named)) (map rowOf (linesOfAll c rest)) at (named .booking .count) (chunks (inOrder jobs (take n keys))) many room (omega arith));
+        left = omega (arith, x .left, e);
+      }
+
+-- At the end all rows are written.
+pub writing-all : (c : Costs) (jobs : List Job) (keys : List Key) (n k : ℕ) (first rows : List (List ℕ)) (at : ℕ) → n ≤ k → n ≤ length keys → Writing c jobs keys n first rows at k
+    → rows ≡ Filled first 0 (map rowOf (linesOfAll c (inOrder jobs (take n keys)))) (chunks (inOrder jobs (take n keys)))
+unfolding linesOfAll chunks
+writing-all c jobs keys n k first rows at h f x =
+    let none = front-none keys n k f h in
+    let e : at + 0 ≡ chunks (inOrder jobs (take n keys)) = rw none at (x .left) in
+    let g : at ≡ chunks (inOrder jobs (take n keys)) = omega arith in
+    sym (x .same ∙ rw (none, g) (filled-all rows (chunks (inOrder jobs (take n keys)))))
+
+-- A named job can be sent.
+pub named-sends : (c : Costs) (jobs : List Job) (keys : List Key) (n k : ℕ) → k < n → n ≤ length keys → All (Sends c) (inOrder jobs (take n keys)) → Sends c (getD jobs (getD keys k noKey .place) noJob)
+named-sends c jobs keys n k h f a =
+    all-front noKey (λ (x : Key). Sends c (getD jobs (x .place) noJob)) keys n k h f (image-all (Sends c) (λ (x : Key). getD jobs (x .place) noJob) (take n keys) a)

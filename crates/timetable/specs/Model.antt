@@ -9,10 +9,10 @@ use Rattle.walk.specs.declared.Job.{Job}
 use Rattle.walk.specs.declared.Chunk.{Chunk}
 use Rattle.walk.specs.Model.{Span, linesOf}
 
--- the jobs of a list that pass a test, in their order
-unfoldable pub keep : (Job → Bool) → List Job → List Job
+-- the elements of a list that pass a test, in their order
+unfoldable pub keep : {A : Type 0} → (A → Bool) → List A → List A
 keep p [] = []
-keep p (j ∷ js) = cond (p j) (j ∷ keep p js) (keep p js)
+keep p (x ∷ xs) = cond (p x) (x ∷ keep p xs) (keep p xs)
 
 -- its start is at most t
 abbrev pub startsBy : ℕ → Job → Bool
@@ -26,6 +26,10 @@ startsAfter t j = not (startsBy t j)
 unfoldable pub linesOfAll : Costs → List Job → List Chunk
 linesOfAll c [] = []
 linesOfAll c (j ∷ js) = linesOf c j ++ linesOfAll c js
+
+-- a line as a row of its seven numbers
+abbrev pub rowOf : Chunk → List ℕ
+rowOf x = x .job ∷ x .show ∷ x .node ∷ x .units ∷ x .start ∷ x .sent ∷ x .finish ∷ []
 
 -- what an issued chunk adds to its show's held ticks: its finish minus its job's start
 abbrev pub holds : Span → ℕ

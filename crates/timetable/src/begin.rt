@@ -8,10 +8,13 @@ ghost use Rattle.walk.specs.Model.{afters, spansOf, spansOfAll};
 ghost use Rattle.walk.specs.Chunks.{Sends};
 ghost use Rattle.timetable.specs.Model.{keep, startsAfter, linesOfAll, raised};
 ghost use Rattle.timetable.specs.BeginSteps.{anyBy, starting, chunks, Few, Raises, RaisesAll};
+ghost use Rattle.timetable.specs.DueSteps.{IsDue};
+use crate::Due;
+use keys::Key;
 use shares::Costs;
 use walk::Busy;
 use walk::Job;
-use walk::chunk_at;
+use walk::chunk_on;
 use walk::occupied;
 
 // The jobs that wait on, at the front of an array.
@@ -35,6 +38,41 @@ pub fn any_begins(jobs: [Job; 128], count: usize, time: u64) -> bool
         i += 1;
     }
     false
+}
+
+// Of the first `waiting` jobs those that start by `time`. One pass, so that a move that begins nothing sorts nothing.
+pub fn due(jobs: [Job; 128], waiting: usize, time: u64) -> Due
+    requires { ⌜ (waiting ≤ 128) × All Few (take waiting jobs) ⌝ }
+    ensures { λ r. ⌜ IsDue jobs waiting time r ⌝ }
+{
+    let mut keys = [Key {
+        time: 0,
+        number: 0,
+        place: 0,
+    }; 128];
+    let mut count: usize = 0;
+    let mut lines: usize = 0;
+    let mut i: usize = 0;
+    while i < waiting {
+        let job = jobs[i];
+        let b = job.booking;
+        if b.start <= time {
+            keys[count] = Key {
+                time: b.start,
+                number: job.number,
+                place: i,
+            };
+            count += 1;
+            lines += b.count;
+        }
+        i += 1;
+    }
+    let order = keys::sorted(keys, count);
+    Due {
+        count,
+        lines,
+        keys: order,
+    }
 }
 
 // How many jobs at the front of the first `count` start by `time`.
@@ -85,25 +123,31 @@ pub fn occupied_by(costs: Costs, busy: Busy, jobs: [Job; 128], count: usize) -> 
     Busy { link, free }
 }
 
-// The held ticks after a job has begun: each of its chunks adds its finish minus the job's start.
-fn raised_by(costs: Costs, held: [u64; 32], job: Job) -> [u64; 32]
-    requires { ⌜ Raises costs held job ⌝ }
-    ensures { λ r. ⌜ (r ≡ raised held (spansOf costs job)) × (length r ≡ 32) ⌝ }
+// Raises the held ticks of a job's show: each of its chunks adds its finish minus the job's start. The cells are
+// lent, not copied.
+pub fn raise(costs: Costs, job: Job, held: &mut [u64; 32])
+    requires { ⌜ Raises costs (now held) job ⌝ }
+    ensures { λ _. ⌜ now (held .exit) ≡ raised (now (held .entry)) (spansOf costs job) ⌝ }
 {
     let booking = job.booking;
     let count = booking.count;
     let start = booking.start;
     let place = (job.show - 1) as usize;
-    let mut cells = held;
     let mut time = start;
     let mut i = 0;
     while i < count {
-        let chunk = chunk_at(costs, job, i, time);
-        cells[place] = cells[place] + (chunk.finish - start);
+        let chunk = chunk_on(
+            costs,
+            job.number,
+            job.show,
+            booking.nodes[i],
+            booking.shares[i],
+            time,
+        );
+        held[place] = held[place] + (chunk.finish - start);
         time = chunk.sent;
         i += 1;
     }
-    cells
 }
 
 // The held ticks after the first `count` jobs have begun.
@@ -114,8 +158,7 @@ pub fn raised_all(costs: Costs, held: [u64; 32], jobs: [Job; 128], count: usize)
     let mut cells = held;
     let mut i = 0;
     while i < count {
-        let next = raised_by(costs, cells, jobs[i]);
-        cells = next;
+        raise(costs, jobs[i], &mut cells);
         i += 1;
     }
     cells

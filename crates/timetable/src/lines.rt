@@ -1,17 +1,20 @@
 // The lines of a timetable, written to lent memory.
 ghost use mathlib.Core.Path.{_≡_};
-ghost use mathlib.Core.List.{_++_};
-ghost use Prim.Native.Nat.{_+_, _≤_};
+ghost use mathlib.Core.List.{_++_, map};
+ghost use Prim.Native.Nat.{_+_, _≤_, _<_};
 ghost use lib.ListN.{length, take, drop};
 ghost use Rattle.lists.specs.Laws.{All};
-ghost use Rattle.walk.specs.Model.{linesOf};
+ghost use Rattle.walk.specs.Model.{linesOf, inOrder};
 ghost use Rattle.walk.specs.Chunks.{Sends};
-ghost use Rattle.timetable.specs.Model.{linesOfAll};
+ghost use Rattle.timetable.specs.Model.{linesOfAll, rowOf};
 ghost use Rattle.timetable.specs.BeginSteps.{chunks};
+ghost use Rattle.timetable.specs.LinesSteps.{Filled};
+use keys::Key;
 use shares::Costs;
 use walk::Chunk;
 use walk::Job;
 use walk::chunk_at;
+use walk::chunk_on;
 
 fn start_of(job: Job) -> u64
     ensures { λ r. ⌜ r ≡ job .booking .start ⌝ }
@@ -55,5 +58,55 @@ pub fn write_lines(out: &mut [Chunk], costs: Costs, jobs: [Job; 128], count: usi
         write_job(out, at, costs, job);
         at = at + count_of(job);
         k = k + 1;
+    }
+}
+
+// Writes a job's lines from place `at` on, each as a row of the record's seven numbers. It takes a slice, since a lent
+// array's length is known to the proof only where the array is made one.
+fn write_row_job(rows: &mut [[u64; 7]], at: usize, costs: Costs, job: Job)
+    requires { ⌜ Sends costs job × (at + job .booking .count ≤ length (now rows)) ⌝ }
+    ensures { λ _. ⌜ now (rows .exit) ≡ Filled (now (rows .entry)) at (map rowOf (linesOf costs job)) (at + job .booking .count) ⌝ }
+{
+    let booking = job.booking;
+    let count = booking.count;
+    let mut from = booking.start;
+    let mut i: usize = 0;
+    while i < count {
+        let c = chunk_on(
+            costs,
+            job.number,
+            job.show,
+            booking.nodes[i],
+            booking.shares[i],
+            from,
+        );
+        rows[at + i] = [c.job, c.show, c.node, c.units, c.start, c.sent, c.finish];
+        from = c.sent;
+        i += 1;
+    }
+}
+
+// Writes the lines of the jobs that the first `count` keys name to the front of 1,024 records, each a row of the record's
+// seven numbers.
+pub fn write_rows(
+    rows: &mut [[u64; 7]; 1024],
+    costs: Costs,
+    jobs: [Job; 128],
+    keys: [Key; 128],
+    count: usize,
+)
+    requires { ⌜ (count ≤ 128) × All (λ (k : Key). k .place < 128) (take count keys) × All (Sends costs) (inOrder jobs (take count keys)) × (chunks (inOrder jobs (take count keys)) ≤ 1024) ⌝ }
+    ensures { λ _. ⌜ now (rows .exit) ≡ map rowOf (linesOfAll costs (inOrder jobs (take count keys))) ++ drop (chunks (inOrder jobs (take count keys))) (now (rows .entry)) ⌝ }
+{
+    let mut at: usize = 0;
+    let mut k: usize = 0;
+    while k < count {
+        let key = keys[k];
+        let place = key.place;
+        let job = jobs[place];
+        let booking = job.booking;
+        write_row_job(rows, at, costs, job);
+        at += booking.count;
+        k += 1;
     }
 }

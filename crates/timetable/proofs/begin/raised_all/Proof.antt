@@ -9,7 +9,7 @@ use Rattle.lists.specs.Laws.{front-none, all-front}
 use Rattle.walk.specs.Model.{noJob, spansOfAll}
 use Rattle.walk.specs.Chunks.{Sends}
 use Rattle.timetable.specs.Model.{raised}
-use Rattle.timetable.specs.HeldSteps.{job-most, raised-next, raises-next}
+use Rattle.timetable.specs.HeldSteps.{job-most, raised-length, raised-next, raises-next}
 use borrow.Author.Needs.{needs}
 use Rattle.timetable.proofs.begin.raised_all.Statement.{statement}
 use Rattle.timetable.proofs.begin.raised_all.Tie as tie
@@ -27,18 +27,18 @@ abbrev μ-loop : tie.MeasureT-loop
 loop-holds : tie.Need-loop-holds Inv-loop μ-loop
 loop-holds c = (omega arith, omega arith, refl, λ k. omega arith)
 
-mul-raised-by : tie.Need-mul-raised-by Inv-loop μ-loop
-mul-raised-by c = search needs
+mul-raise : tie.Need-mul-raise Inv-loop μ-loop
+mul-raise c = search needs
 
-array-copy-out-raised-by : tie.Need-array-copy-out-raised-by Inv-loop μ-loop
-array-copy-out-raised-by c = search needs
+array-copy-out-raise : tie.Need-array-copy-out-raise Inv-loop μ-loop
+array-copy-out-raise c = search needs
 
-raised-by-requires : tie.Need-raised-by-requires Inv-loop μ-loop
-raised-by-requires c κs =
-    let a = c .before .before .before .args in
-    let l = c .before .before .loop in
-    let p = c .before .before .before .pre in
-    raises-next (a .costs) (a .held) (l .cells) (a .t3) (a .count) (l .i) (c .before .loop-test .taken) (p .0) (omega arith) (p .1) (l .inv .3)
+raise-requires : tie.Need-raise-requires Inv-loop μ-loop
+raise-requires c κs =
+    let a = c .before .before .before .before .args in
+    let l = c .before .before .before .loop in
+    let p = c .before .before .before .before .pre in
+    raises-next (a .costs) (a .held) (l .cells) (a .t3) (a .count) (l .i) (c .before .before .loop-test .taken) (p .0) (omega arith) (p .1) (l .inv .3)
 
 add-i : tie.Need-add-i Inv-loop μ-loop
 add-i c = search needs
@@ -48,16 +48,16 @@ loop-less c = search needs
 
 loop-again : tie.Need-loop-again Inv-loop μ-loop
 loop-again c =
-    let a = c .before .before .before .before .args in
-    let l = c .before .before .before .loop in
-    let h = c .before .before .loop-test .taken in
+    let a = c .before .before .before .before .before .args in
+    let l = c .before .before .before .before .loop in
+    let h = c .before .before .before .loop-test .taken in
     let j = getD (a .t3) (l .i) noJob in
-    let s = all-front noJob (Sends (a .costs)) (a .t3) (a .count) (l .i) h (omega arith) (c .before .before .before .before .pre .1 .sends) in
-    let r = c .raised-by .ensures in (
+    let s = all-front noJob (Sends (a .costs)) (a .t3) (a .count) (l .i) h (omega arith) (c .before .before .before .before .before .pre .1 .sends) in
+    let r = c .raise .ensures in (
       omega arith,
-      r .1,
-      l .inv .2 ∙ raised-next (a .costs) (a .t3) (a .count) (l .i) h (omega arith) (l .cells) ∙ rw (r .0),
-      λ k. omega (arith, l .inv .3 k, job-most (a .costs) (l .cells) j k s, ap (λ (x : List ℕ). getD x k 0) (r .0)),
+      ap length r ∙ raised-length (l .cells) _ ∙ l .inv .1,
+      l .inv .2 ∙ raised-next (a .costs) (a .t3) (a .count) (l .i) h (omega arith) (l .cells) ∙ rw (r),
+      λ k. omega (arith, l .inv .3 k, job-most (a .costs) (l .cells) j k s, ap (λ (x : List ℕ). getD x k 0) (r)),
     )
 
 returns : tie.Need-returns Inv-loop μ-loop
@@ -75,9 +75,9 @@ raised-all-spec =
     Inv-loop
     μ-loop
     loop-holds
-    mul-raised-by
-    array-copy-out-raised-by
-    raised-by-requires
+    mul-raise
+    array-copy-out-raise
+    raise-requires
     add-i
     loop-less
     loop-again

@@ -158,7 +158,7 @@ asked w κs qs a good within bs =
                       let e : count ≡ i = omega arith in
                       let z : at + 0 ≡ at = omega arith in (
                         (ap (λ (k : ℕ). (out .ptr, (out .name, k))) same, (tt, (tt, (tt, tt)))),
-                        sym (job-written costs job sends at l (omega arith) from)
+                        sym (job-written costs job sends at l from)
                             ∙ ap (λ (k : ℕ). Filled l (at + k) (linesFrom costs job k from) (at + count)) e
                             ∙ inv .0
                             ∙ ap (λ (k : ℕ). Filled (now out) k (linesFrom costs job 0 (job .booking .start)) (at + count)) z,

@@ -1,0 +1,108 @@
+-- `timetable::begin::raise` meets its contract: the chunks left raise the cells to what all of them make of the held ticks.
+use mathlib.Core.Path.{refl, sym, ap, _∙_}
+use mathlib.Core.List.{List}
+use Prim.Native.Nat.{_-_, _≤_}
+use native.Mathlib.Omega.{arith}
+use Rattle.walk.specs.declared.Chunk.{Chunk}
+use Rattle.walk.specs.Model.{placed}
+use Rattle.walk.specs.Chunks.{lines-none, ends-next, chunk-fits}
+use Rattle.timetable.specs.Model.{raised}
+use Rattle.timetable.specs.HeldSteps.{Raising, raising-next}
+use borrow.Author.Needs.{needs}
+use Rattle.timetable.proofs.begin.raise.Statement.{statement}
+use Rattle.timetable.proofs.begin.raise.Tie as tie
+
+abbrev Inv-loop : tie.InvT-loop
+Inv-loop costs job held₀ booking count start place time₀ i₀ held time i = (i ≤ count) × Raising costs job held₀ held time i
+
+abbrev μ-loop : tie.MeasureT-loop
+μ-loop costs job held₀ booking count start place time₀ i₀ held time i = count - i
+
+sub-place : tie.Need-sub-place Inv-loop μ-loop
+sub-place c = omega (arith, c .before .before .pre .show)
+
+loop-holds : tie.Need-loop-holds Inv-loop μ-loop
+loop-holds c =
+    let p = c .before .before .pre in
+    (omega arith, record { same = refl; ends = p .sends .ends; from = omega arith; most = omega arith })
+
+element-copy-out-chunk-on : tie.Need-element-copy-out-chunk-on Inv-loop μ-loop
+element-copy-out-chunk-on c = search needs
+
+mul-chunk-on : tie.Need-mul-chunk-on Inv-loop μ-loop
+mul-chunk-on c = search needs
+
+element-copy-out-chunk-on-2 : tie.Need-element-copy-out-chunk-on-2 Inv-loop μ-loop
+element-copy-out-chunk-on-2 c = search needs
+
+chunk-on-requires : tie.Need-chunk-on-requires Inv-loop μ-loop
+chunk-on-requires c κs =
+    let s = c .before .before .before .before .before .before in
+    let l = c .before .before .before .loop in
+    chunk-fits (s .args .costs) (s .args .job) (s .pre .sends) (l .i) (l .time) (c .before .before .loop-test .taken) (l .inv .1 .ends) .1
+
+mul-held : tie.Need-mul-held Inv-loop μ-loop
+mul-held c = search needs
+
+element-copy-out-held : tie.Need-element-copy-out-held Inv-loop μ-loop
+element-copy-out-held c = search needs
+
+sub-held : tie.Need-sub-held Inv-loop μ-loop
+sub-held c = rw (c .before .before .chunk-on .ensures) (omega arith)
+
+add-held : tie.Need-add-held Inv-loop μ-loop
+add-held c =
+    let s = c .before .before .before .before .before .before .before .before .before in
+    let l = c .before .before .before .before .before .before .loop in
+    let n = ends-next (s .args .costs) (s .args .job) (s .pre .sends) (l .i) (l .time) (c .before .before .before .before .before .loop-test .taken) (l .inv .1 .ends) in
+    rw (c .before .before .chunk-on .ensures) (omega (arith, n .0, s .pre .room, s .pre .sends .few, l .inv .1 .most))
+
+mul-held-2 : tie.Need-mul-held-2 Inv-loop μ-loop
+mul-held-2 c = search needs
+
+element-write-held : tie.Need-element-write-held Inv-loop μ-loop
+element-write-held c = search needs
+
+add-i : tie.Need-add-i Inv-loop μ-loop
+add-i c = search needs
+
+loop-less : tie.Need-loop-less Inv-loop μ-loop
+loop-less c = search needs
+
+loop-again : tie.Need-loop-again Inv-loop μ-loop
+loop-again c =
+    let s = c .before .before .before .before .before .before .before .before .before in
+    let l = c .before .before .before .before .before .before .loop in
+    rw (c .before .before .chunk-on .ensures)
+    (omega arith, raising-next (s .args .costs) (s .args .job) (s .pre .sends) (s .args .held .now) (l .held) (l .time) (l .i) (c .before .before .before .before .before .loop-test .taken) (l .inv .1))
+
+returns : tie.Need-returns Inv-loop μ-loop
+unfolding raised
+returns c =
+    let s = c .before .before .before .before in
+    let l = c .before .loop in
+    let none = lines-none (s .args .costs) (s .args .job) (s .pre .sends) (l .i) (l .time) (c .loop-test .left) in
+    sym (l .inv .1 .same ∙ ap (λ (xs : List Chunk). raised (l .held) (placed (s .args .job .booking .start) xs)) none)
+
+pub raise-spec : {M : Type 1} → statement M
+raise-spec =
+    tie.close
+    (tie.spec
+    Inv-loop
+    μ-loop
+    sub-place
+    loop-holds
+    element-copy-out-chunk-on
+    mul-chunk-on
+    element-copy-out-chunk-on-2
+    chunk-on-requires
+    mul-held
+    element-copy-out-held
+    sub-held
+    add-held
+    mul-held-2
+    element-write-held
+    add-i
+    loop-less
+    loop-again
+    returns)
