@@ -7,25 +7,20 @@ use native.Mathlib.Omega.{arith}
 use native.Mathlib.Numerals.{add-one}
 use borrow.Author.Tests.{ltb-true, leb-true}
 use lib.Dec.{leb, ltb, eqb}
-use lib.ListN.{length, getD, take, drop, set, replicate, length-append}
-use lib.Seq.{take-suc-set, take-suc, drop-set-lt, drop-drop, drop-cons, take-at, drop-at, length-take-le}
-use Rattle.lists.specs.Laws.{All, all-join, all-map, perm-all, perm-length}
+use lib.ListN.{length, getD, take, drop, set, replicate}
+use lib.Seq.{take-suc-set, take-suc, drop-set-lt, drop-drop}
+use Rattle.lists.specs.Laws.{all-join, all-map, perm-all}
 use Rattle.shares.specs.declared.Costs.{Costs}
-use Rattle.shares.specs.Model.{finish}
 use Rattle.shares.specs.Answers.{answered}
 use Rattle.limits.specs.Tests.{and-both}
-use Rattle.booking.specs.Model.{bookingOf}
 use Rattle.walk.specs.declared.Job.{Job}
 use Rattle.walk.specs.Order.{by-deadline-perm}
-use Rattle.walk.specs.Chunks.{Sends}
 use Rattle.walk.specs.WalkSteps.{Ready}
-use Rattle.walk.specs.BestWalk.{walk-best}
-use Rattle.walk.specs.Plan.{plan-length, plan-sends}
 use Rattle.planner.specs.declared.Farm.{Farm}
 use Rattle.planner.specs.declared.Reply.{Reply}
 use Rattle.planner.specs.declared.Question.{Question}
 use Rattle.planner.specs.declared.Answer.the-variants as answer
-use Rattle.planner.specs.Model.{greatest, between, costsWithin, emptyJob, noJob, waitingOf, termsOf, busyOf, byDeadline, plan, booksAll}
+use Rattle.planner.specs.Model.{greatest, between, costsWithin, waitingOf, termsOf, busyOf, byDeadline}
 use Rattle.planner.specs.Passes.{passesOf}
 use Rattle.planner.specs.PassesSteps.{passes-within, passes-jobs}
 use Rattle.planner.specs.Calls.{Account, said, granted, refused, numberOf, Replies, unopened, openedWith, showsWithin, openSaid, openFarm, heldBy, allowanceOf, accountSaid, planned, accepts, nextFarm, withPlan, ofNumber, yesOf, offerAsked, offerSaid, offerFarm}
@@ -139,38 +134,6 @@ module _ (f : Farm) (s z d : ℕ) where
   unfolding offerSaid offerFarm
   offer-booked r e g a b = record { says = e ∙ rw (a, b); hands = g ∙ rw (a, b) }
 
--- ---- What the walk of an offer starts from
-
--- The waiting jobs and the new one, in the array.
-pub with-new : (f : Farm) (j : Job) → f .waiting < length (f .jobs)
-    → (take (f .waiting + 1) (set (f .jobs) (f .waiting) j) ≡ waitingOf f ++ j ∷ []) × (drop (f .waiting + 1) (set (f .jobs) (f .waiting) j) ≡ drop (f .waiting + 1) (f .jobs))
-with-new f j h = (
-  rw (add-one (f .waiting)) (take-suc-set (f .jobs) (f .waiting) j h),
-  drop-set-lt (f .waiting + 1) (f .jobs) (f .waiting) j (omega arith),
-)
-
--- The array of the jobs in order: those that are walked, and what was behind the waiting jobs.
-pub ordered-is : (f : Farm) (j : Job) (js : List Job) → f .waiting < length (f .jobs)
-    → js ≡ byDeadline (take (f .waiting + 1) (set (f .jobs) (f .waiting) j)) ++ drop (f .waiting + 1) (set (f .jobs) (f .waiting) j)
-    → (take (f .waiting + 1) js ≡ byDeadline (waitingOf f ++ j ∷ [])) × (drop (f .waiting + 1) js ≡ drop (f .waiting + 1) (f .jobs))
-ordered-is f j js h e =
-    let n = with-new f j h in
-    let q = byDeadline (waitingOf f ++ j ∷ []) in
-    let l : length q ≡ f .waiting + 1 =
-    sym (perm-length (by-deadline-perm (waitingOf f ++ j ∷ []))) ∙ length-append (waitingOf f) (j ∷ []) ∙ ap (λ (x : ℕ). x + 1) (length-take-le (f .waiting) (f .jobs) (omega arith)) in
-    let w : js ≡ q ++ drop (f .waiting + 1) (f .jobs) = e ∙ rw (n .0, n .1) in
-    (rw w (take-at q (drop (f .waiting + 1) (f .jobs)) (f .waiting + 1) l), rw w (drop-at q (drop (f .waiting + 1) (f .jobs)) (f .waiting + 1) l))
-
--- What holds of each job and of the empty one holds of the job of a number.
-pub of-number : (P : Job → Type 0) (n : ℕ) (js : List Job) → All P js → P emptyJob → P (ofNumber n js)
-unfolding ofNumber
-of-number P n [] a z = z
-of-number P n (j ∷ js) a z = go (eqb (j .number) n) (of-number P n js (a .1) z)
-  where
-    go : (t : Bool) → P (ofNumber n js) → P (cond t j (ofNumber n js))
-    go true r = a .0
-    go false r = r
-
 -- ---- What the functions of an offer promise each other
 
 -- What questions 6 and 7 say.
@@ -187,44 +150,23 @@ pub record Offered (f : Farm) (j : Job) : Type 0 where
   pub deadline : j .deadline ≤ greatest
   pub waiting : f .waiting < 128
 
--- the walk of the waiting jobs and a new one
-pub record PlanWith (f : Farm) (j : Job) (ok : Bool) (out : List Job) : Type 0 where
-  pub books : ok ≡ booksAll (termsOf f) (busyOf f) (byDeadline (waitingOf f ++ j ∷ []))
-  pub plans : ok ≡ true → out ≡ plan (termsOf f) (busyOf f) (byDeadline (waitingOf f ++ j ∷ [])) ++ drop (f .waiting + 1) (f .jobs)
-
--- On a farm that passes, the walk has costs and nodes that the shares answer for, and jobs of at least a unit with deadlines in the range.
-pub walk-ready : (f : Farm) (j : Job) → Offered f j → Ready (termsOf f) (byDeadline (waitingOf f ++ j ∷ []))
-walk-ready f j o =
+-- On a farm that passes, the walk has costs and nodes that the shares answer for, free times in the range, and jobs of at least a unit with
+-- deadlines in the range.
+pub offer-ready : (f : Farm) (j : Job) → Offered f j → Ready (termsOf f) (busyOf f) (waitingOf f ++ j ∷ [])
+offer-ready f j o =
     let g = passes-within f (o .passes) in
     record {
       answered = answered (f .costs) (f .nodes) (g .costs .send .0) (g .nodes .1);
-      jobs = perm-all (λ (x : Job). (1 ≤ x .size) × (x .deadline ≤ greatest)) (by-deadline-perm (waitingOf f ++ j ∷ []))
-          (all-join (λ (x : Job). (1 ≤ x .size) × (x .deadline ≤ greatest)) (waitingOf f) (j ∷ [])
-          (all-map (λ x a. (a .0 .size .0, a .0 .deadline)) (waitingOf f) (passes-jobs f (o .passes))) ((o .size, o .deadline), tt));
+      free = g .free;
+      jobs = all-join (λ (x : Job). (1 ≤ x .size) × (x .deadline ≤ greatest)) (waitingOf f) (j ∷ [])
+          (all-map (λ x a. (a .0 .size .0, a .0 .deadline)) (waitingOf f) (passes-jobs f (o .passes))) ((o .size, o .deadline), tt);
     }
 
--- The job of a number, one by one.
-pub number-next : (n i : ℕ) (js : List Job) → i < length js → ofNumber n (drop i js) ≡ cond (eqb (getD js i noJob .number) n) (getD js i noJob) (ofNumber n (drop (i + 1) js))
-unfolding ofNumber
-number-next n i js h = rw (add-one i, drop-cons js i noJob h)
-
--- The empty job has no chunks to work out.
-pub empty-sends : (c : Costs) → Sends c emptyJob
-unfolding bookingOf finish
-empty-sends c = record { few = omega arith; nodes = refl; shares = refl; known = tt; ends = omega arith }
-
--- The plan of an offer that is accepted: the jobs at the front of the array, each with chunks that can be worked out.
-module _ (f : Farm) (j : Job) (o : Offered f j) (sized : length (f .free) ≡ 64) (full : length (f .jobs) ≡ 128) (ok : Bool) (out : List Job) (p : PlanWith f j ok out) (yes′ : ok ≡ true) where
-  pub plan-jobs : take (f .waiting + 1) out ≡ plan (termsOf f) (busyOf f) (byDeadline (waitingOf f ++ j ∷ []))
-  plan-jobs =
-      let q = byDeadline (waitingOf f ++ j ∷ []) in
-      let l : length q ≡ f .waiting + 1 =
-      sym (perm-length (by-deadline-perm (waitingOf f ++ j ∷ []))) ∙ length-append (waitingOf f) (j ∷ []) ∙ ap (λ (x : ℕ). x + 1) (length-take-le (f .waiting) (f .jobs) (omega (arith, o .waiting))) in
-      rw (p .plans yes′) (take-at (plan (termsOf f) (busyOf f) q) (drop (f .waiting + 1) (f .jobs)) (f .waiting + 1) (plan-length (termsOf f) (busyOf f) q ∙ l))
-
-  pub plan-sent : All (Sends (f .costs)) (take (f .waiting + 1) out)
-  plan-sent =
-      let r = walk-ready f j o in
-      let g = passes-within f (o .passes) in
-      let best = walk-best (termsOf f) (busyOf f) (byDeadline (waitingOf f ++ j ∷ [])) r (omega (arith, g .nodes .1)) (sym (p .books) ∙ yes′) in
-      rw plan-jobs (plan-sends (termsOf f) (busyOf f) (byDeadline (waitingOf f ++ j ∷ [])) (g .nodes .1) sized (all-map (λ x a. a .1) (byDeadline (waitingOf f ++ j ∷ [])) (r .jobs)) best)
+pub walk-ready : (f : Farm) (j : Job) → Offered f j → Ready (termsOf f) (busyOf f) (byDeadline (waitingOf f ++ j ∷ []))
+walk-ready f j o =
+    let r = offer-ready f j o in
+    record {
+      answered = r .answered;
+      free = r .free;
+      jobs = perm-all (λ (x : Job). (1 ≤ x .size) × (x .deadline ≤ greatest)) (by-deadline-perm (waitingOf f ++ j ∷ [])) (r .jobs);
+    }

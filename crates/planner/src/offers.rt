@@ -2,13 +2,12 @@
 ghost use mathlib.Core.Bool.{true};
 ghost use mathlib.Core.List.{[]};
 ghost use mathlib.Core.Path.{_≡_};
-ghost use Prim.Native.Nat.{_≤_};
-ghost use lib.ListN.{take};
+ghost use Prim.Native.Nat.{_+_};
 ghost use Rattle.booking.specs.Model.{bookingOf};
 ghost use Rattle.walk.specs.Chunks.{Sends};
 ghost use Rattle.planner.specs.Passes.{passesOf};
-ghost use Rattle.planner.specs.Calls.{said, Replies, ofNumber, yesOf, offerAsked, offerSaid, offerFarm};
-ghost use Rattle.planner.specs.CallsSteps.{Offered, PlanWith};
+ghost use Rattle.planner.specs.Calls.{said, Replies, yesOf, offerAsked, offerSaid, offerFarm};
+ghost use Rattle.planner.specs.CallsSteps.{Offered};
 ghost use Rattle.planner.specs.OfferSteps.{askedOf, Planned, Decides};
 use crate::Answer;
 use crate::Decision;
@@ -24,9 +23,7 @@ use limits::between;
 use shares::Costs;
 use walk::Busy;
 use walk::Job;
-use walk::Plan;
 use walk::Terms;
-use walk::by_deadline;
 use walk::finish_of;
 use walk::walked;
 
@@ -48,45 +45,6 @@ fn new_job(number: u64, show: u64, size: u32, deadline: u64) -> Job
     job
 }
 
-// The job of a number among the first `count`; the empty job where there is none.
-fn of_number(jobs: [Job; 128], count: usize, number: u64) -> Job
-    requires { ⌜ count ≤ 128 ⌝ }
-    ensures { λ r. ⌜ r ≡ ofNumber number (take count jobs) ⌝ }
-{
-    let mut i = 0;
-    while i < count {
-        let job = jobs[i];
-        if job.number == number {
-            return job;
-        }
-        i += 1;
-    }
-    empty_job()
-}
-
-// The walk of the waiting jobs and a new one.
-fn walk_with(farm: Farm, job: Job) -> Plan
-    requires { ⌜ Offered farm job ⌝ }
-    ensures { λ r. ⌜ PlanWith farm job (r .ok) (r .jobs) ⌝ }
-{
-    let waiting = farm.waiting;
-    let mut jobs = farm.jobs;
-    jobs[waiting] = job;
-    let ordered = by_deadline(jobs, waiting + 1);
-    let costs = farm.costs;
-    let terms = Terms {
-        costs,
-        nodes: farm.nodes,
-        clock: farm.clock,
-    };
-    let free = farm.free;
-    let busy = Busy {
-        link: farm.link,
-        free,
-    };
-    walked(terms, busy, ordered, waiting + 1)
-}
-
 // The answer to an accepted offer.
 fn yes(costs: Costs, job: Job) -> Answer
     requires { ⌜ Sends costs job ⌝ }
@@ -104,10 +62,22 @@ fn yes(costs: Costs, job: Job) -> Answer
 
 // Question 8: whether the walk books every waiting job and the new one, and the jobs with their bookings.
 fn planned(farm: Farm, job: Job) -> Decision
-    requires { ⌜ Offered farm job ⌝ }
+    requires { ⌜ Offered farm job × (job .number ≡ farm .used + 1) ⌝ }
     ensures { λ r. ⌜ Planned farm job r ⌝ }
 {
-    let plan = walk_with(farm, job);
+    let costs = farm.costs;
+    let terms = Terms {
+        costs,
+        nodes: farm.nodes,
+        clock: farm.clock,
+    };
+    let free = farm.free;
+    let busy = Busy {
+        link: farm.link,
+        free,
+    };
+    let waiting = farm.jobs;
+    let plan = walked(terms, busy, waiting, farm.waiting, job);
     let jobs = plan.jobs;
     if !plan.ok {
         return Decision {
@@ -116,10 +86,11 @@ fn planned(farm: Farm, job: Job) -> Decision
             jobs,
         };
     }
-    let new = of_number(jobs, farm.waiting + 1, job.number);
+    let place = plan.place;
+    let new = jobs[place];
     Decision {
         accepted: true,
-        answer: yes(farm.costs, new),
+        answer: yes(costs, new),
         jobs,
     }
 }
