@@ -309,7 +309,7 @@ issued-issues-none w (move t m) cs i = ⊎-elim (λ r. subst (All P) (sym (r .li
 
 -- ---- The theorem
 
-opening-granted : (n : ℕ) (c : Costs) (al : List ℕ) → openSaid n c al .number ≡ 0 → (between 1 n 64 && costsWithin c && showsWithin al) ≡ true
+pub opening-granted : (n : ℕ) (c : Costs) (al : List ℕ) → openSaid n c al .number ≡ 0 → (between 1 n 64 && costsWithin c && showsWithin al) ≡ true
 unfolding openSaid
 opening-granted n c al e = go (between 1 n 64) (costsWithin c) (showsWithin al) e
   where

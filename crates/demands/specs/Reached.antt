@@ -7,12 +7,13 @@ use lib.Dec.{eqb}
 use lib.ListN.{length}
 use Rattle.shares.specs.declared.Costs.{Costs}
 use Rattle.planner.specs.declared.Farm.{Farm}
+use Rattle.planner.specs.Model.{Sized}
 use Rattle.planner.specs.Passes.{passesOf}
 use Rattle.planner.specs.Calls.{openSaid, openFarm, planned, accepts, withPlan, offerAsked, offerFarm}
 use Rattle.planner.specs.Clock.{movedFarm, moveAsked, moveFarm}
 use Rattle.demands.specs.CallLists.{Call, offer, move, History, handed, opening, run}
-use Rattle.demands.specs.Invariant.{run-append}
-use Rattle.demands.specs.Demand3.{demand3}
+use Rattle.demands.specs.Invariant.{open-inv, run-inv, run-append}
+use Rattle.demands.specs.Demand3.{opening-granted, demand3}
 
 -- the farm that a list of calls after a granted opening hands back
 pub record Reached (f : Farm) : Type 0 where
@@ -58,3 +59,10 @@ handed-opened f (move t m) = go (eqb (moveAsked f t (length m)) 0)
 -- A farm that was reached passes question 11: demand 3 says so of every list.
 pub reached-passes : (f : Farm) → Reached f → passesOf f ≡ true
 reached-passes f r = subst (λ (x : Farm). passesOf x ≡ true) (r .is) (demand3 (r .nodes) (r .costs) (r .allowances) (r .granted) (r .calls) .passes)
+
+-- Its arrays have their declared lengths.
+pub reached-sized : (f : Farm) → Reached f → Sized f
+reached-sized f r =
+    subst Sized (r .is)
+    (run-inv (opening (openFarm (r .nodes) (r .costs) (r .allowances))) (r .calls)
+    (open-inv (r .nodes) (r .costs) (r .allowances) (opening-granted (r .nodes) (r .costs) (r .allowances) (r .granted))) .sized)

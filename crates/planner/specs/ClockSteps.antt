@@ -1,34 +1,39 @@
 -- A clock move and showing, question by question: what the functions of src/clock.rt need and promise each other.
 use mathlib.Core.Path.{_≡_, refl, ap, sym, subst, _∙_}
-use mathlib.Core.List.{List, [], _∷_, _++_}
+use mathlib.Core.List.{List, [], _∷_, _++_, Permᴰ·symm}
 use mathlib.Core.Bool.{Bool, true, false, cond, not}
 use Prim.Native.Nat.{ℕ, suc, _-_, _≤_, _<_}
 use native.Mathlib.Omega.{arith}
-use borrow.Author.Tests.{leb-true, leb-false, le-leb, lt-leb, eq-eqb, ne-eqb}
+use borrow.Author.Tests.{leb-true, le-leb, lt-leb, eqb-true, eq-eqb, ne-eqb}
 use lib.Dec.{leb, eqb}
 use lib.ListN.{length, getD, take, drop, take-append-drop}
-use lib.Seq.{take-take, take-at, length-take-le}
-use Rattle.lists.specs.Laws.{All, Pairs, all-map, all-both, all-front, all-take, perm-all, perm-length}
+use lib.Seq.{take-at, length-take-le}
+use Rattle.lists.specs.Laws.{All, all-map, all-both, all-front, all-take, perm-all, perm-length}
 use Rattle.shares.specs.declared.Costs.{Costs}
 use Rattle.booking.specs.Best.{chosen}
 use Rattle.walk.specs.declared.Job.{Job}
 use Rattle.walk.specs.declared.Busy.{Busy}
 use Rattle.walk.specs.declared.Chunk.{Chunk}
-use Rattle.walk.specs.Order.{by-start-perm, by-start-grows}
+use Rattle.keys.specs.declared.Key.{Key}
+use Rattle.walk.specs.Order.{by-start-perm}
 use Rattle.walk.specs.Chunks.{Sends}
-use Rattle.timetable.specs.BeginSteps.{starting, chunks, Few, RaisesAll}
+use Rattle.timetable.specs.declared.Due.{Due}
+use Rattle.timetable.specs.BeginSteps.{chunks, Few, RaisesAll}
+use Rattle.timetable.specs.DueSteps.{IsDue}
 use Rattle.timetable.specs.LinesSteps.{all-lines}
 use Rattle.timetable.specs.Keep.{keep-all, keep-none, keep-every}
 use Rattle.limits.specs.Says.{between-is}
 use Rattle.soundness.specs.Sound.{JobKept}
 use Rattle.planner.specs.declared.Farm.{Farm}
 use Rattle.planner.specs.declared.Question.{Question}
+use Rattle.planner.specs.declared.Question.the-variants as question
 use Rattle.planner.specs.declared.Answer.the-variants as answer
+use Rattle.planner.specs.declared.Move.{Move}
 use Rattle.planner.specs.declared.clock.Issue.{Issue}
-use Rattle.planner.specs.Model.{greatest, between, Between, spansOfAll, afters, byStart, waitingOf, busyOf, JobSized, Sized}
+use Rattle.planner.specs.Model.{greatest, between, Between, spansOfAll, afters, inOrder, byStart, waitingOf, busyOf, JobSized, Sized}
 use Rattle.planner.specs.Passes.{passesOf, figuresOf, JobWithin}
 use Rattle.planner.specs.PassesSteps.{passes-within, passes-jobs}
-use Rattle.planner.specs.Calls.{Clock, Shown, numberOf, granted, Replies}
+use Rattle.planner.specs.Calls.{Clock, Shown, said, numberOf, granted, Replies}
 use Rattle.planner.specs.Clock.{keep, startsBy, startsAfter, linesOfAll, raised, begun, left, issued, movedFarm, moveAsked, moveSaid, moveFarm, moveMemory, moveLines, shown, shownAsked, shownSaid, shownMemory, shownLines}
 
 -- what questions 11, 9 and 10 ask, all answered yes
@@ -89,32 +94,13 @@ module _ (f : Farm) (n : ℕ) where
   unfolding shownAsked
   shown-asked a b = rw (a, b)
 
--- ---- What begins stands at the front
-
--- Of jobs in order of start, those at the front that start by t are all that do.
-front-begun : (t : ℕ) (js : List Job) → Pairs (λ (a b : Job). a .booking .start ≤ b .booking .start) js → take (starting t js) js ≡ keep (startsBy t) js
-unfolding starting keep
-front-begun t [] h = refl
-front-begun t (j ∷ js) h = go (startsBy t j) refl (front-begun t js (h .1))
-  where
-    go : (b : Bool) → startsBy t j ≡ b → take (starting t js) js ≡ keep (startsBy t) js
-        → take (cond b (suc (starting t js)) 0) (j ∷ js) ≡ cond b (j ∷ keep (startsBy t) js) (keep (startsBy t) js)
-    go true e r = ap (λ (l : List Job). j ∷ l) r
-    go false e r = let late = leb-false (j .booking .start) t e in sym (keep-none (startsBy t) js (all-map (λ k p. lt-leb (k .booking .start) t (omega arith)) js (h .0)))
+-- ---- In order of start
 
 -- The waiting jobs in order of start, at the front of an array.
-module _ (f : Farm) (ordered : List Job) (sized : Sized f) (w : f .waiting ≤ 128) (o : ordered ≡ byStart (waitingOf f) ++ drop (f .waiting) (f .jobs)) where
-  pub ordered-front : take (f .waiting) ordered ≡ byStart (waitingOf f)
-  ordered-front =
-      ap (take (f .waiting)) o ∙ take-at (byStart (waitingOf f)) (drop (f .waiting) (f .jobs)) (f .waiting)
-      (sym (perm-length (by-start-perm (waitingOf f))) ∙ length-take-le (f .waiting) (f .jobs) (omega (arith, sized .jobs)))
-
-  -- Those that start by t are what a move to t begins.
-  pub ordered-begun : (t n : ℕ) → n ≡ starting t (take (f .waiting) ordered) → n ≤ f .waiting → take n ordered ≡ begun f t
-  ordered-begun t n e h =
-      sym (take-take n (f .waiting) ordered h) ∙ ap (take n) ordered-front
-      ∙ ap (λ (k : ℕ). take k (byStart (waitingOf f))) (e ∙ ap (starting t) ordered-front)
-      ∙ front-begun t (byStart (waitingOf f)) (by-start-grows (waitingOf f))
+pub ordered-front : (f : Farm) (ordered : List Job) → Sized f → f .waiting ≤ 128 → ordered ≡ byStart (waitingOf f) ++ drop (f .waiting) (f .jobs) → take (f .waiting) ordered ≡ byStart (waitingOf f)
+ordered-front f ordered sized w o =
+    ap (take (f .waiting)) o ∙ take-at (byStart (waitingOf f)) (drop (f .waiting) (f .jobs)) (f .waiting)
+    (sym (perm-length (by-start-perm (waitingOf f))) ∙ length-take-le (f .waiting) (f .jobs) (omega (arith, sized .jobs)))
 
 -- ---- Jobs that wait
 
@@ -157,62 +143,105 @@ module _ (f : Farm) (sized : Sized f) (e : passesOf f ≡ true) where
   pub begun-can-begin : (t : ℕ) → All (CanBegin f) (begun f t)
   begun-can-begin t = all-map (λ j h. h .0) (begun f t) (keep-all (startsBy t) (CanBegin f) (byStart (waitingOf f)) by-start-can-begin)
 
--- ---- A clock move, worked out
-
--- what a move to t begins from: the first n of these jobs are what it begins
-pub record Begins (f : Farm) (ordered : List Job) (n t : ℕ) : Type 0 where
-  pub few : n ≤ 128
-  pub waiting : f .waiting ≤ 128
-  pub jobs : take n ordered ≡ begun f t
-  pub ready : All (CanBegin f) (take n ordered)
-
--- What starts by t, at the front of the waiting jobs in order of start, begins.
-pub begins-of : (f : Farm) (sized : Sized f) (e : passesOf f ≡ true) (ordered : List Job) → ordered ≡ byStart (waitingOf f) ++ drop (f .waiting) (f .jobs)
-    → (t k : ℕ) → k ≡ starting t (take (f .waiting) ordered) → k ≤ f .waiting → Begins f ordered k t
-begins-of f sized e ordered o t k q h =
-    let w = waiting-few f sized e in
-    let j = ordered-begun f ordered sized w o t k q h in
-    record { few = omega (arith, w, h); waiting = w; jobs = j; ready = subst (All (CanBegin f)) (sym j) (begun-can-begin f sized e t) }
-
 can-begin-sends : (f : Farm) (js : List Job) → All (CanBegin f) js → All (Sends (f .costs)) js
 can-begin-sends f js h = all-map (λ j a. a .sends) js h
 
 pub can-begin-few : (f : Farm) (js : List Job) → All (CanBegin f) js → All Few js
 can-begin-few f js h = all-map (λ j a. a .sends .few) js h
 
--- What the functions that it calls ask for.
-module _ {f : Farm} {ordered : List Job} {n t : ℕ} (x : Begins f ordered n t) where
-  pub begins-few : (n ≤ 128) × All Few (take n ordered)
-  begins-few = (x .few, can-begin-few f (take n ordered) (x .ready))
+-- ---- A clock move, worked out
 
-  pub begins-sends : (n ≤ 128) × All (Sends (f .costs)) (take n ordered)
-  begins-sends = (x .few, can-begin-sends f (take n ordered) (x .ready))
+-- a farm that passes, and what a move to t begins on it
+pub record Begins (f : Farm) (t : ℕ) (d : Due) : Type 0 where
+  pub passes : passesOf f ≡ true
+  pub due : IsDue (f .jobs) (f .waiting) t d
 
-  pub begins-raises : (n ≤ 128) × RaisesAll (f .costs) (f .held) (take n ordered)
-  begins-raises = (
-    x .few,
-    record {
-      sends = can-begin-sends f (take n ordered) (x .ready);
-      shows = all-map (λ j a. a .show) (take n ordered) (x .ready);
-      room = all-map (λ j a. a .room) (take n ordered) (x .ready);
-    },
-  )
+-- what is asked to find it
+pub due-asked : (f : Farm) → Sized f → passesOf f ≡ true → (f .waiting ≤ 128) × All Few (waitingOf f)
+due-asked f sized e = (waiting-few f sized e, can-begin-few f (waitingOf f) (waiting-can-begin f sized e))
+
+module _ (f : Farm) (t : ℕ) (d : Due) (sized : Sized f) (x : Begins f t d) where
+  -- The jobs that the keys name.
+  abbrev named : List Job
+  named = inOrder (f .jobs) (take (d .count) (d .keys))
+
+  pub begins-few : d .count ≤ 128
+  begins-few = omega (arith, x .due .few, waiting-few f sized (x .passes))
+
+  pub begins-places : All (λ (k : Key). k .place < 128) (take (d .count) (d .keys))
+  begins-places = all-map (λ k p. omega (arith, waiting-few f sized (x .passes))) (take (d .count) (d .keys)) (x .due .places)
+
+  begins-ready : All (CanBegin f) named
+  begins-ready = subst (All (CanBegin f)) (sym (x .due .jobs)) (begun-can-begin f sized (x .passes) t)
+
+  pub begins-sends : All (Sends (f .costs)) named
+  begins-sends = can-begin-sends f named begins-ready
+
+  pub begins-raises : RaisesAll (f .costs) (f .held) named
+  begins-raises = record {
+    sends = begins-sends;
+    shows = all-map (λ j a. a .show) named begins-ready;
+    room = all-map (λ j a. a .room) named begins-ready;
+  }
+
+  -- Their lines are those that are issued, and as many as were counted.
+  pub begins-lines : linesOfAll (f .costs) named ≡ issued f t
+  begins-lines = ap (linesOfAll (f .costs)) (x .due .jobs)
+
+  pub begins-count : length (issued f t) ≡ d .lines
+  begins-count = all-lines (f .costs) (begun f t) (can-begin-sends f (begun f t) (begun-can-begin f sized (x .passes) t)) ∙ sym (x .due .lines)
 
 -- The farm with what its parts come to is the moved farm.
-pub moved-is : (f : Farm) (ordered : List Job) (n t : ℕ) (b : Busy) (hs : List ℕ) (k : ℕ) (js : List Job) → Begins f ordered n t
-    → b ≡ afters (busyOf f) (linesOfAll (f .costs) (take n ordered))
-    → hs ≡ raised (f .held) (spansOfAll (f .costs) (take n ordered))
+pub moved-is : (f : Farm) (t : ℕ) (ls : List Job) (b : Busy) (hs : List ℕ) (k : ℕ) (js : List Job) → ls ≡ begun f t
+    → b ≡ afters (busyOf f) (linesOfAll (f .costs) ls)
+    → hs ≡ raised (f .held) (spansOfAll (f .costs) ls)
     → k ≡ length (left f t)
     → js ≡ left f t ++ drop k (f .jobs)
     → record { opened = f .opened; nodes = f .nodes; costs = f .costs; shows = f .shows; allowances = f .allowances; held = hs; clock = t; link = b .link; free = b .free; used = f .used; waiting = k; jobs = js } ≡ movedFarm f t
-moved-is f ordered n t b hs k js x e₁ e₂ e₃ e₄ =
-    let b′ : b ≡ afters (busyOf f) (issued f t) = e₁ ∙ ap (λ (l : List Job). afters (busyOf f) (linesOfAll (f .costs) l)) (x .jobs) in
-    let h′ : hs ≡ raised (f .held) (spansOfAll (f .costs) (begun f t)) = e₂ ∙ ap (λ (l : List Job). raised (f .held) (spansOfAll (f .costs) l)) (x .jobs) in
+moved-is f t ls b hs k js q e₁ e₂ e₃ e₄ =
+    let b′ : b ≡ afters (busyOf f) (issued f t) = e₁ ∙ ap (λ (l : List Job). afters (busyOf f) (linesOfAll (f .costs) l)) q in
+    let h′ : hs ≡ raised (f .held) (spansOfAll (f .costs) (begun f t)) = e₂ ∙ ap (λ (l : List Job). raised (f .held) (spansOfAll (f .costs) l)) q in
     let j′ : js ≡ left f t ++ drop (length (left f t)) (f .jobs) = e₄ ∙ ap (λ (i : ℕ). left f t ++ drop i (f .jobs)) e₃ in
     rw (b′, h′, j′, e₃)
 
+-- what a move on a farm that passes comes to before its lines are written
+pub record MoveDecides (f : Farm) (t n : ℕ) (r : Move) : Type 0 where
+  pub says : said (r .answer) ≡ moveSaid f t n
+  pub granted : r .granted ≡ eqb (moveAsked f t n) 0
+  pub due : IsDue (f .jobs) (f .waiting) t (r .due)
+
+module _ (f : Farm) (t n : ℕ) (d : Due) (sized : Sized f) (x : Begins f t d) where
+  -- Refused with 9: the time.
+  pub decides-untimely : between (f .clock) t greatest ≡ false → MoveDecides f t n (record { granted = false; answer = answer.No question.Time; due = d })
+  unfolding moveSaid
+  decides-untimely b = let a = move-untimely f t n (x .passes) b in record { says = rw a; granted = rw a; due = x .due }
+
+  -- Refused with 10: the lent timetable.
+  pub decides-unheld : between (f .clock) t greatest ≡ true → n < d .lines → MoveDecides f t n (record { granted = false; answer = answer.No question.Lines; due = d })
+  unfolding moveSaid
+  decides-unheld b h =
+      let a = move-unheld f t n (x .passes) b (lt-leb (length (issued f t)) n (omega (arith, begins-count f t d sized x))) in
+      record { says = rw a; granted = rw a; due = x .due }
+
+  -- Granted.
+  pub decides-granted : between (f .clock) t greatest ≡ true → d .lines ≤ n → MoveDecides f t n (record { granted = true; answer = answer.Clock t (d .lines); due = d })
+  unfolding moveSaid
+  decides-granted b h =
+      let a = move-asked f t n (x .passes) b (le-leb (length (issued f t)) n (omega (arith, begins-count f t d sized x))) in
+      record { says = rw a (ap (λ (i : ℕ). granted Clock (t ∷ i ∷ [])) (sym (begins-count f t d sized x))); granted = rw a; due = x .due }
+
+-- What follows for the farm that is handed back, and for the lines.
+module _ (f : Farm) (t n : ℕ) (r : Move) (x : MoveDecides f t n r) where
+  pub move-refused : r .granted ≡ false → (moveFarm f t n ≡ f) × (moveLines f t n ≡ [])
+  unfolding moveFarm
+  move-refused e = let z = sym (x .granted) ∙ e in (rw z, rw z)
+
+  pub move-taken : r .granted ≡ true → (moveFarm f t n ≡ movedFarm f t) × (moveLines f t n ≡ issued f t) × (length (issued f t) ≤ n)
+  unfolding moveFarm
+  move-taken e = let z = sym (x .granted) ∙ e in (rw z, rw z, move-granted f t n (eqb-true (moveAsked f t n) 0 z) .lines)
+
 -- the lines of these jobs are due: they can be worked out, and there is room for them
-pub record Due (c : Costs) (ls : List Chunk) (room : ℕ) (r : Issue) : Type 0 where
+pub record LinesDue (c : Costs) (ls : List Chunk) (room : ℕ) (r : Issue) : Type 0 where
   pub few : r .count ≤ 128
   pub sends : All (Sends c) (take (r .count) (r .jobs))
   pub lines : linesOfAll c (take (r .count) (r .jobs)) ≡ ls
@@ -222,13 +251,13 @@ pub record Due (c : Costs) (ls : List Chunk) (room : ℕ) (r : Issue) : Type 0 w
 abbrev pub stoppedBy : Farm → Question → Issue
 stoppedBy f q = record { count = 0; jobs = f .jobs; reply = record { answer = answer.No q; farm = f } }
 
-none-due : (c : Costs) (n : ℕ) (f : Farm) (q : Question) → Due c [] n (stoppedBy f q)
+none-due : (c : Costs) (n : ℕ) (f : Farm) (q : Question) → LinesDue c [] n (stoppedBy f q)
 unfolding linesOfAll
 none-due c n f q = record { few = omega arith; sends = tt; lines = refl; fits = omega arith }
 
 pub record MoveIssues (f : Farm) (t n : ℕ) (r : Issue) : Type 0 where
   pub replies : Replies (r .reply) (moveSaid f t n) (moveFarm f t n)
-  pub due : Due (f .costs) (moveLines f t n) n r
+  pub due : LinesDue (f .costs) (moveLines f t n) n r
 
 -- A move that is stopped at a question writes nothing.
 pub move-stops : (f : Farm) (t n m : ℕ) (q : Question) (r : Issue) → r ≡ stoppedBy f q → moveAsked f t n ≡ suc m → numberOf q ≡ suc m → MoveIssues f t n r
@@ -237,27 +266,34 @@ move-stops f t n m q r e a b =
     let z = ne-eqb (moveAsked f t n) 0 (λ h. omega (arith, a)) in
     subst (MoveIssues f t n) (sym e) (record {
       replies = record { says = rw (z, a, b); hands = rw z };
-      due = subst (λ (l : List Chunk). Due (f .costs) l n (stoppedBy f q)) (sym (ap (λ (x : Bool). cond x (issued f t) []) z)) (none-due (f .costs) n f q);
+      due = subst (λ (l : List Chunk). LinesDue (f .costs) l n (stoppedBy f q)) (sym (ap (λ (x : Bool). cond x (issued f t) []) z)) (none-due (f .costs) n f q);
     })
 
--- The lines of what begins are as many as its chunks.
-pub begun-lines : (f : Farm) (ordered : List Job) (k t : ℕ) → Begins f ordered k t → length (issued f t) ≡ chunks (take k ordered)
-begun-lines f ordered k t x = ap (λ (js : List Job). length (linesOfAll (f .costs) js)) (sym (x .jobs)) ∙ all-lines (f .costs) (take k ordered) (can-begin-sends f (take k ordered) (x .ready))
-
 -- A move that is granted writes the lines of what begins.
-pub move-goes : (f : Farm) (t n : ℕ) (ordered : List Job) (k lines : ℕ) (next : Farm) → Begins f ordered k t → moveAsked f t n ≡ 0 → lines ≡ chunks (take k ordered) → next ≡ movedFarm f t
-    → MoveIssues f t n (record { count = k; jobs = ordered; reply = record { answer = answer.Clock t lines; farm = next } })
-unfolding moveSaid moveFarm
-move-goes f t n ordered k lines next x a e m =
-    let z = eq-eqb (moveAsked f t n) 0 a in
+pub move-goes : (f : Farm) (t n : ℕ) (r : Move) (jobs : List Job) (next : Farm) → Sized f → passesOf f ≡ true → MoveDecides f t n r → r .granted ≡ true → take (r .due .count) jobs ≡ inOrder (f .jobs) (take (r .due .count) (r .due .keys))
+    → next ≡ movedFarm f t → MoveIssues f t n (record { count = r .due .count; jobs = jobs; reply = record { answer = r .answer; farm = next } })
+move-goes f t n r jobs next sized e x g q m =
+    let b : Begins f t (r .due) = record { passes = e; due = x .due } in
+    let k = move-taken f t n r x g in
     record {
-      replies = record { says = rw z (ap (λ (i : ℕ). granted Clock (t ∷ i ∷ [])) (e ∙ sym (begun-lines f ordered k t x))); hands = rw z m };
+      replies = record { says = x .says; hands = m ∙ sym (k .0) };
       due = record {
-        few = x .few;
-        sends = can-begin-sends f (take k ordered) (x .ready);
-        lines = ap (linesOfAll (f .costs)) (x .jobs) ∙ sym (ap (λ (b : Bool). cond b (issued f t) []) z);
-        fits = subst (λ (l : List Chunk). length l ≤ n) (sym (ap (λ (b : Bool). cond b (issued f t) []) z)) (move-granted f t n a .lines);
+        few = begins-few f t (r .due) sized b;
+        sends = subst (All (Sends (f .costs))) (sym q) (begins-sends f t (r .due) sized b);
+        lines = ap (linesOfAll (f .costs)) q ∙ begins-lines f t (r .due) sized b ∙ sym (k .1);
+        fits = subst (λ (l : List Chunk). length l ≤ n) (sym (k .1)) (k .2);
       };
+    }
+
+-- One that is refused writes nothing.
+pub move-stays : (f : Farm) (t n : ℕ) (r : Move) (jobs : List Job) → MoveDecides f t n r → r .granted ≡ false
+    → MoveIssues f t n (record { count = 0; jobs = jobs; reply = record { answer = r .answer; farm = f } })
+unfolding linesOfAll
+move-stays f t n r jobs x g =
+    let k = move-refused f t n r x g in
+    record {
+      replies = record { says = x .says; hands = sym (k .0) };
+      due = record { few = omega arith; sends = tt; lines = sym (k .1); fits = subst (λ (l : List Chunk). length l ≤ n) (sym (k .1)) (omega arith) };
     }
 
 -- ---- A move that begins no job
@@ -287,29 +323,34 @@ module _ (f : Farm) (t : ℕ) (few : f .waiting ≤ length (f .jobs)) (late : Al
   all-left = keep-every (startsAfter t) (waitingOf f) (all-map (λ j e. ap not e) (waitingOf f) late)
 
   -- Only its clock changes.
-  unbegun-farm : clockAt f t ≡ movedFarm f t
+  pub unbegun-farm : clockAt f t ≡ movedFarm f t
   unfolding raised afters spansOfAll linesOfAll
   unbegun-farm =
       let count : length (left f t) ≡ f .waiting = ap length all-left ∙ length-take-le (f .waiting) (f .jobs) few in
       let jobs : left f t ++ drop (length (left f t)) (f .jobs) ≡ f .jobs = rw (count, all-left) (take-append-drop (f .waiting) (f .jobs)) in
       rw (none-begun, jobs, count)
 
-  none-issued : issued f t ≡ []
+  pub none-issued : issued f t ≡ []
   unfolding linesOfAll
   none-issued = rw none-begun
 
-  -- It is granted where the farm passes and the time is within its limits.
-  pub unbegun-issues : (n : ℕ) (r : Issue) → passesOf f ≡ true → between (f .clock) t greatest ≡ true
-      → r ≡ record { count = 0; jobs = f .jobs; reply = record { answer = answer.Clock t 0; farm = clockAt f t } } → MoveIssues f t n r
-  unfolding moveSaid moveFarm linesOfAll
-  unbegun-issues n r p b e =
-      let lines : length (issued f t) ≡ 0 = ap length none-issued in
-      let z : eqb (moveAsked f t n) 0 ≡ true = eq-eqb (moveAsked f t n) 0 (move-asked f t n p b (le-leb (length (issued f t)) n (omega arith))) in
-      let due : moveLines f t n ≡ [] = rw (z, none-issued) in
-      subst (MoveIssues f t n) (sym e) (record {
-        replies = record { says = rw z (ap (λ (i : ℕ). granted Clock (t ∷ i ∷ [])) (sym lines)); hands = rw z unbegun-farm };
-        due = record { few = omega arith; sends = tt; lines = sym due; fits = subst (λ (l : List Chunk). length l ≤ n) (sym due) (omega arith) };
-      })
+keep-empty : (p : Job → Bool) (js : List Job) → length (keep p js) ≡ 0 → All (λ (j : Job). p j ≡ false) js
+unfolding keep
+keep-empty p [] h = tt
+keep-empty p (j ∷ js) h = go (p j) refl h (keep-empty p js)
+  where
+    go : (b : Bool) → p j ≡ b → length (cond b (j ∷ keep p js) (keep p js)) ≡ 0 → (length (keep p js) ≡ 0 → All (λ (j : Job). p j ≡ false) js) → (p j ≡ false) × All (λ (j : Job). p j ≡ false) js
+    go true e h r = absurd (omega arith)
+    go false e h r = (e, r h)
+
+-- Where no job is due only the clock changes, and no line is issued.
+pub none-due-yet : (f : Farm) (t : ℕ) (d : Due) → Sized f → Begins f t d → d .count ≡ 0 → (clockAt f t ≡ movedFarm f t) × (issued f t ≡ [])
+none-due-yet f t d sized x e =
+    let none : length (begun f t) ≡ 0 = ap length (sym (x .due .jobs)) ∙ ap (λ (k : ℕ). length (inOrder (f .jobs) (take k (d .keys)))) e in
+    let late : All (λ (j : Job). startsBy t j ≡ false) (waitingOf f) =
+    perm-all (λ (j : Job). startsBy t j ≡ false) (Permᴰ·symm (by-start-perm (waitingOf f))) (keep-empty (startsBy t) (byStart (waitingOf f)) none) in
+    let few : f .waiting ≤ length (f .jobs) = omega (arith, waiting-few f sized (x .passes), sized .jobs) in
+    (unbegun-farm f t few late, none-issued f t few late)
 
 -- ---- The lent memory
 
@@ -323,7 +364,7 @@ move-memory f t m = go (eqb (moveAsked f t (length m)) 0)
     go false = refl
 
 -- What is due, with its costs and its jobs by themselves, as the writer asks for it and as it leaves the memory.
-module _ (c : Costs) (ls : List Chunk) (n : ℕ) (r : Issue) (x : Due c ls n r) (c′ : Costs) (js : List Job) (e : c′ ≡ c) (q : js ≡ r .jobs) where
+module _ (c : Costs) (ls : List Chunk) (n : ℕ) (r : Issue) (x : LinesDue c ls n r) (c′ : Costs) (js : List Job) (e : c′ ≡ c) (q : js ≡ r .jobs) where
   due-sends : All (Sends c′) (take (r .count) js)
   due-sends = rw (e, q) (x .sends)
 
@@ -343,7 +384,7 @@ module _ (c : Costs) (ls : List Chunk) (n : ℕ) (r : Issue) (x : Due c ls n r) 
 
 pub record ShowIssues (f : Farm) (n : ℕ) (r : Issue) : Type 0 where
   pub replies : Replies (r .reply) (shownSaid f n) f
-  pub due : Due (f .costs) (shownLines f n) n r
+  pub due : LinesDue (f .costs) (shownLines f n) n r
 
 pub show-stops : (f : Farm) (n m : ℕ) (q : Question) (r : Issue) → r ≡ stoppedBy f q → shownAsked f n ≡ suc m → numberOf q ≡ suc m → ShowIssues f n r
 unfolding shownSaid
@@ -351,7 +392,7 @@ show-stops f n m q r e a b =
     let z = ne-eqb (shownAsked f n) 0 (λ h. omega (arith, a)) in
     subst (ShowIssues f n) (sym e) (record {
       replies = record { says = rw (z, a, b); hands = refl };
-      due = subst (λ (l : List Chunk). Due (f .costs) l n (stoppedBy f q)) (sym (ap (λ (x : Bool). cond x (shown f) []) z)) (none-due (f .costs) n f q);
+      due = subst (λ (l : List Chunk). LinesDue (f .costs) l n (stoppedBy f q)) (sym (ap (λ (x : Bool). cond x (shown f) []) z)) (none-due (f .costs) n f q);
     })
 
 -- The lines that are shown are as many as the waiting bookings' chunks.

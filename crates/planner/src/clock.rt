@@ -1,13 +1,15 @@
 // A clock move and showing the timetable. First the answer, the next farm and the jobs whose lines are due are worked out
 // by value; then their lines are written to the memory that is lent.
+ghost use mathlib.Core.Bool.{true};
 ghost use mathlib.Core.Path.{_≡_};
-ghost use Prim.Native.Nat.{_≤_};
 ghost use lib.ListN.{length};
+ghost use Rattle.planner.specs.Passes.{passesOf};
 ghost use Rattle.planner.specs.Calls.{Replies};
 ghost use Rattle.planner.specs.Clock.{moveSaid, moveFarm, moveMemory, shownSaid, shownMemory, movedFarm};
-ghost use Rattle.planner.specs.ClockSteps.{clockAt, Begins, MoveIssues, ShowIssues};
+ghost use Rattle.planner.specs.ClockSteps.{Begins, MoveDecides, MoveIssues, ShowIssues};
 use crate::Answer;
 use crate::Farm;
+use crate::Move;
 use crate::Question;
 use crate::Reply;
 use crate::Timetable;
@@ -15,17 +17,16 @@ use crate::calls::refused;
 use crate::passing::passes;
 use limits::between;
 use shares::Costs;
-use timetable::begin::any_begins;
-use timetable::begin::begun;
-use timetable::begin::left;
+use timetable::Due;
+use timetable::begin::begun_by;
+use timetable::begin::due;
 use timetable::begin::line_count;
-use timetable::begin::occupied_by;
-use timetable::begin::raised_all;
 use timetable::lines::write_lines;
 use walk::Busy;
 use walk::Chunk;
 use walk::Job;
 use walk::by_start;
+use walk::gathered;
 
 // What a call comes to: the first `count` jobs, whose lines it writes, and its reply.
 pub struct Issue {
@@ -46,82 +47,31 @@ fn stopped(farm: Farm, question: Question) -> Issue
     }
 }
 
-// The farm moved to `time`, which begins the first `count` jobs by start.
-fn moved(farm: Farm, ordered: [Job; 128], count: usize, time: u64) -> Farm
-    requires { ⌜ Begins farm ordered count time ⌝ }
-    ensures { λ r. ⌜ r ≡ movedFarm farm time ⌝ }
-{
-    let costs = farm.costs;
-    let free = farm.free;
-    let held = farm.held;
-    let jobs = farm.jobs;
-    let busy = Busy {
-        link: farm.link,
-        free,
-    };
-    let after = occupied_by(costs, busy, ordered, count);
-    let cells = raised_all(costs, held, ordered, count);
-    let rest = left(jobs, farm.waiting, time);
-    let times = after.free;
-    let others = rest.jobs;
-    let mut next = farm;
-    next.held = cells;
-    next.clock = time;
-    next.link = after.link;
-    next.free = times;
-    next.waiting = rest.count;
-    next.jobs = others;
-    next
-}
-
-// A move that begins no job: only the clock changes, and no line is due.
-fn unbegun(farm: Farm, time: u64) -> Issue
-    ensures { λ r. ⌜ r ≡ record { count = 0; jobs = farm .jobs; reply = record { answer = Answer.Clock time 0; farm = clockAt farm time } } ⌝ }
-{
-    let jobs = farm.jobs;
-    let mut later = farm;
-    later.clock = time;
-    Issue {
-        count: 0,
-        jobs,
-        reply: Reply {
-            answer: Answer::Clock { time, lines: 0 },
-            farm: later,
-        },
-    }
-}
-
-// A clock move, worked out: questions 11, 9 and 10 in that order. Most moves begin no job, and need no order.
+// A clock move, worked out: question 11, then what a farm that passes decides.
 fn moving(farm: Farm, time: u64, room: usize) -> Issue
     ensures { λ r. ⌜ MoveIssues farm time room r ⌝ }
 {
     if !passes(farm) {
         return stopped(farm, Question::Farm);
     }
-    if !between(farm.clock, time, 1000000000000) {
-        return stopped(farm, Question::Time);
+    let step = farm.move_unchecked(time, room);
+    let answer = step.answer;
+    let due = step.due;
+    let keys = due.keys;
+    let waiting = farm.jobs;
+    if !step.granted {
+        return Issue {
+            count: 0,
+            jobs: waiting,
+            reply: Reply { answer, farm },
+        };
     }
-    let waiting = farm.waiting;
-    let jobs = farm.jobs;
-    if !any_begins(jobs, waiting, time) {
-        return unbegun(farm, time);
-    }
-    let ordered = by_start(jobs, waiting);
-    let count = begun(ordered, waiting, time);
-    let lines = line_count(ordered, count);
-    if room < lines {
-        return stopped(farm, Question::Lines);
-    }
-    let next = moved(farm, ordered, count, time);
     Issue {
-        count,
-        jobs: ordered,
+        count: due.count,
+        jobs: gathered(waiting, keys, due.count),
         reply: Reply {
-            answer: Answer::Clock {
-                time,
-                lines: lines as u64,
-            },
-            farm: next,
+            answer,
+            farm: farm.moved(due, time),
         },
     }
 }
@@ -177,6 +127,76 @@ fn with_lines(reply: Reply, lines: [Chunk; 1024]) -> Timetable
 }
 
 impl Farm {
+    // A clock move on a farm that passes question 11: questions 9 and 10 in that order, and what begins. The caller keeps the farm, so that a
+    // move that begins nothing changes one figure of it.
+    pub fn move_unchecked(self, time: u64, room: usize) -> Move
+        requires { ⌜ passesOf self ≡ true ⌝ }
+        ensures { λ r. ⌜ MoveDecides self time room r ⌝ }
+    {
+        let jobs = self.jobs;
+        let found = due(jobs, self.waiting, time);
+        if !between(self.clock, time, 1_000_000_000_000) {
+            return Move {
+                granted: false,
+                answer: Answer::No(Question::Time),
+                due: found,
+            };
+        }
+        if room < found.lines {
+            return Move {
+                granted: false,
+                answer: Answer::No(Question::Lines),
+                due: found,
+            };
+        }
+        Move {
+            granted: true,
+            answer: Answer::Clock {
+                time,
+                lines: found.lines as u64,
+            },
+            due: found,
+        }
+    }
+
+    // The farm moved to `time`: what is due begins, in order of start, and the others keep the order that they have.
+    pub fn moved(mut self, due: Due, time: u64) -> Farm
+        requires { ⌜ Begins self time due ⌝ }
+        ensures { λ r. ⌜ r ≡ movedFarm self time ⌝ }
+    {
+        let costs = self.costs;
+        let free = self.free;
+        let held = self.held;
+        let jobs = self.jobs;
+        let keys = due.keys;
+        let busy = Busy {
+            link: self.link,
+            free,
+        };
+        let begun = begun_by(costs, busy, held, jobs, keys, due.count);
+        let after = begun.busy;
+        let times = after.free;
+        let cells = begun.held;
+        self.held = cells;
+        self.clock = time;
+        self.link = after.link;
+        self.free = times;
+        let waiting = self.waiting;
+        let mut kept = 0;
+        let mut i = 0;
+        while i < waiting {
+            let job = self.jobs[i];
+            let booking = job.booking;
+            if time < booking.start {
+                self.jobs[kept] = job;
+                kept += 1;
+            }
+            i += 1;
+        }
+        self.waiting = kept;
+        self
+    }
+
     // A clock move to `time`: the lines that it issues are written to the front of the timetable.
     pub fn clock(self, time: u64, out: &mut [Chunk]) -> Reply
         ensures { λ r. ⌜ Replies r (moveSaid self time (length (now (out .entry)))) (moveFarm self time (length (now (out .entry)))) × (now (out .exit) ≡ moveMemory self time (now (out .entry))) ⌝ }

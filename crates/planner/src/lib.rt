@@ -7,6 +7,7 @@ mod passing;
 mod table;
 
 use shares::Costs;
+use timetable::Due;
 use walk::Chunk;
 use walk::Job;
 
@@ -80,6 +81,13 @@ pub struct Decision {
     pub accepted: bool,
     pub answer: Answer,
     pub jobs: [Job; 128],
+}
+
+// What a clock move comes to before its lines are written: whether it is granted, its answer, and what begins.
+pub struct Move {
+    pub granted: bool,
+    pub answer: Answer,
+    pub due: Due,
 }
 
 // A reply, with the lent memory by value.

@@ -1,6 +1,6 @@
 -- The line of an answer, as the crate printing takes it, and the chunk lines of a clock move, for src/answer.rt.
 use mathlib.Core.Path.{_≡_, refl, ap, sym, _∙_}
-use mathlib.Core.List.{List, [], _∷_, _++_, append-nil, append-assoc}
+use mathlib.Core.List.{List, [], _∷_, _++_, map, append-nil, append-assoc}
 use mathlib.Core.Bool.{Bool, true, false, cond}
 use Prim.Native.Nat.{ℕ, _+_, _*_, _≤_, _<_}
 use native.Mathlib.Numerals.{add-one}
@@ -70,34 +70,6 @@ line-count (answer.No q) = rw (no-number q) (omega arith)
 
 -- ---- The chunk lines of a clock move
 
--- how many chunk lines stand before the line of a clock move: its second number, 0 in a refusal
-abbrev pub chunksBefore : Line → ℕ
-chunksBefore l = getD (l .numbers) 1 0
-
-pub lines-said : (f : Farm) (t : ℕ) → chunksBefore (lineWith (moveSaid f t lent)) ≡ length (moveLines f t lent)
-unfolding lineWith moveSaid
-lines-said f t = go (eqb (moveAsked f t lent) 0) refl
-  where
-    go : (b : Bool) → eqb (moveAsked f t lent) 0 ≡ b → chunksBefore (lineWith (moveSaid f t lent)) ≡ length (moveLines f t lent)
-    go true e = rw e
-    go false e = rw (e, e)
-
-pub few-lines : (f : Farm) (t : ℕ) → length (moveLines f t lent) ≤ lent
-few-lines f t = go (eqb (moveAsked f t lent) 0) refl
-  where
-    go : (b : Bool) → eqb (moveAsked f t lent) 0 ≡ b → length (cond b (issued f t) []) ≤ lent
-    go true e = move-granted f t lent (eqb-true (moveAsked f t lent) 0 e) .lines
-    go false e = omega arith
-
--- the lines stand at the front of the lent memory
-pub lines-front : (f : Farm) (t : ℕ) (m : List Chunk) → length m ≡ lent → take (length (moveLines f t lent)) (moveMemory f t m) ≡ moveLines f t lent
-unfolding moveMemory
-lines-front f t m h = rw h (go (eqb (moveAsked f t lent) 0))
-  where
-    go : (b : Bool) → take (length (cond b (issued f t) [])) (cond b (issued f t ++ drop (length (issued f t)) m) m) ≡ cond b (issued f t) []
-    go true = take-at (issued f t) (drop (length (issued f t)) m) (length (issued f t)) refl
-    go false = refl
-
 -- the lines of records that are rows of numbers
 unfoldable pub rowTexts : List (List ℕ) → List ℕ
 rowTexts [] = []
@@ -116,16 +88,13 @@ row-next xs i l h k t a b =
     ap (λ (z : List ℕ). rowTexts (take i xs) ++ z) t ∙ sym (rw (add-one i, take-suc xs i [] h) (row-snoc (take i xs) (getD xs i []))) in
     record { wrote = wrote-same more (wrote-join (a .wrote) k (b .wrote)); within = omega (arith, a .within, b .within) }
 
--- one chunk line more
-texts-snoc : (xs : List Chunk) (x : Chunk) → chunkTexts (xs ++ x ∷ []) ≡ chunkTexts xs ++ chunkText x
-unfolding chunkTexts
-texts-snoc [] x = append-nil (chunkText x)
-texts-snoc (y ∷ xs) x = ap (λ (l : List ℕ). chunkText y ++ l) (texts-snoc xs x) ∙ sym (append-assoc (chunkText y) (chunkTexts xs) (chunkText x))
+-- They are the chunk lines of the records.
+row-texts : (xs : List Chunk) → rowTexts (map rowOf xs) ≡ chunkTexts xs
+unfolding rowTexts chunkTexts
+row-texts [] = refl
+row-texts (x ∷ xs) = ap (λ (l : List ℕ). chunkText x ++ l) (row-texts xs)
 
--- One chunk line more is written.
-pub chunk-next : (xs : List Chunk) (i : ℕ) (d : Chunk) (l : Line) {at : ℕ} {e x y : List ℕ} {r s : ℕ} → i < length xs → r ≤ length e → textOf l ≡ chunkText (getD xs i d)
-    → WroteWithin (i * 160) (chunkTexts (take i xs)) at e x r → WroteWithin 160 (textOf l) r x y s → WroteWithin ((i + 1) * 160) (chunkTexts (take (i + 1) xs)) at e y s
-chunk-next xs i d l h k t a b =
-    let more : chunkTexts (take i xs) ++ textOf l ≡ chunkTexts (take (i + 1) xs) =
-    ap (λ (z : List ℕ). chunkTexts (take i xs) ++ z) t ∙ sym (rw (add-one i, take-suc xs i d h) (texts-snoc (take i xs) (getD xs i d))) in
-    record { wrote = wrote-same more (wrote-join (a .wrote) k (b .wrote)); within = omega (arith, a .within, b .within) }
+-- So are those of records at the front of the lent memory.
+pub front-texts : (xs : List Chunk) (rest rows : List (List ℕ)) (n : ℕ) → rows ≡ map rowOf xs ++ rest → length xs ≡ n → rowTexts (take n rows) ≡ chunkTexts xs
+front-texts xs rest rows n e l =
+    ap (λ (r : List (List ℕ)). rowTexts (take n r)) e ∙ ap rowTexts (take-at (map rowOf xs) rest n (length-map xs rowOf ∙ l)) ∙ row-texts xs

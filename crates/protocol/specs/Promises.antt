@@ -1,32 +1,20 @@
--- What the functions promise: a line's step, a block, the end of the input.
+-- What the functions promise: a block, the end of the input.
 use mathlib.Core.Path.{_≡_}
 use mathlib.Core.List.{List, []}
 use mathlib.Core.Bool.{cond}
 use Prim.Native.Nat.{ℕ, _+_, _≤_, _<_}
 use lib.Dec.{leb}
 use lib.ListN.{length}
-use Rattle.planner.specs.declared.Reply.{Reply}
-use Rattle.planner.specs.Calls.{said}
 use Rattle.text.specs.Writing.{WroteWithin}
 use Rattle.protocol.specs.declared.Session.{Session}
 use Rattle.protocol.specs.declared.Progress.{Progress}
-use Rattle.protocol.specs.declared.Stepped.{Stepped}
-use Rattle.protocol.specs.Model.{Answered, answerText, Fed, feed, atEnd}
+use Rattle.protocol.specs.Model.{Fed, feed, atEnd}
 use Rattle.protocol.specs.Feeding.{stretch}
 use Rattle.protocol.specs.Rows.{pendingOf}
 
 -- the largest answer: 1,024 chunk lines and a clock line, of at most 160 bytes each
 abbrev pub largest : ℕ
 largest = 164_000
-
--- one line: the next farm, and its answer
-pub record Steps (x : Answered) (at : ℕ) (entry exit : List ℕ) (r : Stepped) : Type 0 where
-  pub hands : r .farm ≡ x .farm
-  pub wrote : WroteWithin largest (x .text) at entry exit (r .at)
-
--- the answer of a reply, and its farm
-abbrev pub replied : Reply → Answered
-replied r = record { farm = r .farm; text = answerText (said (r .answer)) }
 
 -- what bytes come to, fed to a day so far
 abbrev pub fedTo : Session → List ℕ → Fed

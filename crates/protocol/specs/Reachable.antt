@@ -8,12 +8,12 @@ use lib.ListN.{length, getD, replicate, length-replicate}
 use Rattle.shares.specs.declared.Costs.{Costs}
 use Rattle.walk.specs.declared.Chunk.{Chunk}
 use Rattle.planner.specs.declared.Farm.{Farm}
-use Rattle.planner.specs.Model.{between, costsWithin}
+use Rattle.planner.specs.Model.{Sized, between, costsWithin}
 use Rattle.planner.specs.Passes.{passesOf}
 use Rattle.planner.specs.Calls.{unopened, openedWith, showsWithin, openSaid, openFarm, offerFarm}
 use Rattle.planner.specs.Clock.{moveFarm}
 use Rattle.demands.specs.CallLists.{Call, offer, move, handed}
-use Rattle.demands.specs.Reached.{Reached, reached-opening, reached-call, handed-opened, reached-passes}
+use Rattle.demands.specs.Reached.{Reached, reached-opening, reached-call, handed-opened, reached-passes, reached-sized}
 use Rattle.text.specs.Model.{newline}
 use Rattle.reading.specs.declared.Kind.{Kind}
 use Rattle.reading.specs.declared.Kind.the-variants as kind
@@ -27,6 +27,9 @@ Reachable f = f .opened ≡ true → Reached f
 -- Once opened it passes question 11.
 pub reachable-passes : (f : Farm) → Reachable f → f .opened ≡ true → passesOf f ≡ true
 reachable-passes f r o = reached-passes f (r o)
+
+pub reachable-sized : (f : Farm) → Reachable f → f .opened ≡ true → Sized f
+reachable-sized f r o = reached-sized f (r o)
 
 -- An opening hands back a farm that it reached, or one that is not opened.
 opening-reachable : (n : ℕ) (c : Costs) (al : List ℕ) → Reachable (openFarm n c al)

@@ -1,19 +1,20 @@
 // The lines of answers.
+ghost use mathlib.Core.List.{_++_};
 ghost use mathlib.Core.Path.{_≡_};
 ghost use Prim.Native.Nat.{_+_, _*_, _≤_};
 ghost use lib.ListN.{length, take};
 ghost use Rattle.planner.specs.Calls.{said, numberOf};
 ghost use Rattle.text.specs.Writing.{WroteWithin};
-ghost use Rattle.protocol.specs.Model.{answerText, refusal, chunkText, chunkTexts};
+ghost use Rattle.protocol.specs.Model.{answerText, refusal};
 ghost use Rattle.printing.specs.Model.{lineText};
 ghost use Rattle.printing.specs.declared.Word.the-variants as word;
 ghost use Rattle.protocol.specs.AnswerLines.{lineWith, textOf, rowTexts};
+ghost use Rattle.protocol.specs.Promises.{largest};
 use planner::Answer;
 use planner::Question;
 use printing::Line;
 use printing::Word;
 use printing::put;
-use walk::Chunk;
 
 // The number of a question.
 fn number_of(question: Question) -> u64
@@ -35,7 +36,7 @@ fn number_of(question: Question) -> u64
 }
 
 // The line of an answer: the word with its values where it was granted, `no` with its number where it was refused.
-pub fn line_of(answer: Answer) -> Line
+fn line_of(answer: Answer) -> Line
     ensures { λ r. ⌜ r ≡ lineWith (said answer) ⌝ }
 {
     match answer {
@@ -81,25 +82,6 @@ pub fn line_of(answer: Answer) -> Line
     }
 }
 
-// The line of a chunk: the record's seven fields.
-fn chunk_line(chunk: Chunk) -> Line
-    ensures { λ r. ⌜ (r .count ≤ 7) × (textOf r ≡ chunkText chunk) ⌝ }
-{
-    Line {
-        word: Word::Chunk,
-        count: 7,
-        numbers: [
-            chunk.job,
-            chunk.show,
-            chunk.node,
-            chunk.units,
-            chunk.start,
-            chunk.sent,
-            chunk.finish,
-        ],
-    }
-}
-
 // Writes the answer to a call at place `at`, and answers the place behind it.
 pub fn put_answer(out: &mut [u8], at: usize, answer: Answer) -> usize
     requires { ⌜ at + 160 ≤ length (now out) ⌝ }
@@ -124,20 +106,6 @@ pub fn put_unread(out: &mut [u8], at: usize) -> usize
     )
 }
 
-// Writes the lines of the first `count` chunks at place `at`, and answers the place behind them.
-pub fn put_chunks(out: &mut [u8], at: usize, chunks: [Chunk; 1024], count: usize) -> usize
-    requires { ⌜ (count ≤ 1024) × (at + count * 160 ≤ length (now out)) ⌝ }
-    ensures { λ r. ⌜ WroteWithin (count * 160) (chunkTexts (take count chunks)) at (now (out .entry)) (now (out .exit)) r ⌝ }
-{
-    let mut i = 0;
-    let mut place = at;
-    while i < count {
-        place = put(out, place, chunk_line(chunks[i]));
-        i += 1;
-    }
-    place
-}
-
 // The line of a chunk record that is a row of its seven numbers.
 fn row_line(row: [u64; 7]) -> Line
     ensures { λ r. ⌜ (r .count ≤ 7) × (textOf r ≡ lineText word.Chunk row) ⌝ }
@@ -150,7 +118,7 @@ fn row_line(row: [u64; 7]) -> Line
 }
 
 // Writes the lines of the first `count` records at place `at`, and answers the place behind them.
-pub fn put_rows(out: &mut [u8], at: usize, rows: &[[u64; 7]; 1024], count: usize) -> usize
+fn put_rows(out: &mut [u8], at: usize, rows: &[[u64; 7]; 1024], count: usize) -> usize
     requires { ⌜ (count ≤ 1024) × (count ≤ length (now rows)) × (at + count * 160 ≤ length (now out)) ⌝ }
     ensures { λ r. ⌜ WroteWithin (count * 160) (rowTexts (take count (now (rows .entry)))) at (now (out .entry)) (now (out .exit)) r ⌝ }
 {
@@ -161,4 +129,19 @@ pub fn put_rows(out: &mut [u8], at: usize, rows: &[[u64; 7]; 1024], count: usize
         i += 1;
     }
     place
+}
+
+// Writes what a clock move that issued lines answers: its lines first, then its answer.
+pub fn put_move(
+    out: &mut [u8],
+    at: usize,
+    rows: &[[u64; 7]; 1024],
+    count: usize,
+    answer: Answer,
+) -> usize
+    requires { ⌜ (count ≤ 1024) × (count ≤ length (now rows)) × (at + largest ≤ length (now out)) ⌝ }
+    ensures { λ r. ⌜ WroteWithin largest (rowTexts (take count (now (rows .entry))) ++ answerText (said answer)) at (now (out .entry)) (now (out .exit)) r ⌝ }
+{
+    let place = put_rows(out, at, rows, count);
+    put_answer(out, place, answer)
 }

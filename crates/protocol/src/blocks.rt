@@ -12,15 +12,17 @@ use crate::Progress;
 use crate::Rest;
 use crate::Session;
 use crate::answer::put_answer;
+use crate::answer::put_move;
 use crate::answer::put_unread;
 use crate::kept::row_of;
 use crate::kept::with_bytes;
-use crate::step::answer_row;
 use crate::step::in_turn;
+use crate::step::opening;
 use planner::Farm;
 use reading::Kind;
 use reading::find;
 use shares::Costs;
+use timetable::lines::write_rows;
 
 // The start of a day: an unopened farm, and nothing of a line. The farm is the one that a refused opening hands back.
 pub fn start() -> Session
@@ -45,8 +47,15 @@ pub fn start() -> Session
 }
 
 // Answers the lines of a block from place `from` on, at the front of `out`. It stops at the block's end, where the rest of an
-// unfinished line is kept, or where `out` may not hold the next answer.
-pub fn answer_block(session: Session, block: &[u8], from: usize, out: &mut [u8]) -> Progress
+// unfinished line is kept, or where `out` may not hold the next answer. The farm was reached by an opening and calls, so question 11 is not asked
+// again; it is changed where it stands, and a line that changes no job copies none. A clock move is lent `rows`, in which nothing is kept.
+pub fn answer_block(
+    session: Session,
+    block: &[u8],
+    from: usize,
+    rows: &mut [[u64; 7]; 1024],
+    out: &mut [u8],
+) -> Progress
     requires { ⌜ Reachable (session .farm) ⌝ }
     ensures { λ r. ⌜ Took session (now (block .entry)) from (now (out .entry)) (now (out .exit)) r ⌝ }
 {
@@ -102,10 +111,32 @@ pub fn answer_block(session: Session, block: &[u8], from: usize, out: &mut [u8])
                         farm.jobs = jobs;
                     }
                 }
-                _ => {
-                    let done = answer_row(farm, row, out, at);
-                    farm = done.farm;
-                    at = done.at;
+                Kind::Clock => {
+                    let step = farm.move_unchecked(numbers[0], 1024);
+                    let answer = step.answer;
+                    let due = step.due;
+                    if !step.granted {
+                        at = put_answer(out, at, answer);
+                    } else if due.count == 0 {
+                        farm.clock = numbers[0];
+                        at = put_answer(out, at, answer);
+                    } else {
+                        let costs = farm.costs;
+                        let jobs = farm.jobs;
+                        let keys = due.keys;
+                        write_rows(rows, costs, jobs, keys, due.count);
+                        farm = farm.moved(due, numbers[0]);
+                        at = put_move(out, at, rows, due.lines, answer);
+                    }
+                }
+                Kind::Farm => {
+                    let reply = opening(row);
+                    let answer = reply.answer;
+                    farm = reply.farm;
+                    at = put_answer(out, at, answer);
+                }
+                Kind::Unreadable => {
+                    at = put_unread(out, at);
                 }
             }
         }
@@ -118,7 +149,7 @@ pub fn answer_block(session: Session, block: &[u8], from: usize, out: &mut [u8])
 }
 
 // The end of the input: what is pending is a line if it is not empty. It writes nothing where `out` may not hold the answer.
-pub fn end_of_input(session: Session, out: &mut [u8]) -> usize
+pub fn end_of_input(session: Session, rows: &mut [[u64; 7]; 1024], out: &mut [u8]) -> usize
     requires { ⌜ Reachable (session .farm) ⌝ }
     ensures { λ r. ⌜ WroteWithin (length (now (out .entry))) (endText session (length (now (out .entry)))) 0 (now (out .entry)) (now (out .exit)) r ⌝ }
 {
@@ -130,6 +161,6 @@ pub fn end_of_input(session: Session, out: &mut [u8]) -> usize
         return 0;
     }
     let newline = [b'\n'];
-    let done = answer_block(session, &newline, 0, out);
+    let done = answer_block(session, &newline, 0, rows, out);
     done.written
 }

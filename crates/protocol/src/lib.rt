@@ -28,9 +28,3 @@ pub struct Progress {
     pub next: usize,
     pub written: usize,
 }
-
-// The farm after a line, and the place behind its answer.
-pub struct Stepped {
-    pub farm: Farm,
-    pub at: usize,
-}
