@@ -19,14 +19,15 @@ use Rattle.shares.specs.Least.{IsFewest, fewest-is, fewest-nodes, fewest
 pub answered : (c : Costs) (n : ℕ) → 1 ≤ c .send → n ≤ 64 → answers c n ≡ true
 answered c n h k = rw (le-leb 1 (c .send) h, le-leb n 64 k)
 
+pub both-true : (a b : Bool) → (a && b) ≡ true → (a ≡ true) × (b ≡ true)
+both-true true true e = (refl, refl)
+both-true true false e = absurd (false≢true e)
+both-true false b e = absurd (false≢true e)
+
 pub answered-is : (c : Costs) (n : ℕ) → answers c n ≡ true → (1 ≤ c .send) × (n ≤ 64)
-answered-is c n e = go (leb 1 (c .send)) (leb n 64) refl refl e
-  where
-    go : (a b : Bool) → leb 1 (c .send) ≡ a → leb n 64 ≡ b → (a && b) ≡ true → (1 ≤ c .send) × (n ≤ 64)
-    go true true p q e = (leb-true _ _ p, leb-true _ _ q)
-    go true false p q e = absurd (false≢true e)
-    go false true p q e = absurd (false≢true e)
-    go false false p q e = absurd (false≢true e)
+answered-is c n e =
+    let t = both-true (leb 1 (c .send)) (leb n 64) e in
+    (leb-true 1 (c .send) (t .0), leb-true n 64 (t .1))
 
 -- ---- The fewest nodes
 

@@ -5,5 +5,5 @@ pub mod Chunks
 pub mod Capacity
 pub mod Optimal
 pub mod Least
-pub mod Slack
 pub mod Answers
+pub mod Slack

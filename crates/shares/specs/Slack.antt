@@ -1,6 +1,6 @@
 -- By how many ticks a window can be shorter or longer with the same shares; and where that tells the least window that holds a size.
-use mathlib.Core.Path.{_≡_, refl, sym, ap}
-use mathlib.Core.Bool.{Bool, true, false, cond, _&&_, false≢true}
+use mathlib.Core.Path.{_≡_, refl, sym, ap, _∙_}
+use mathlib.Core.Bool.{Bool, true, false, cond, _&&_}
 use Prim.Native.Nat.{ℕ, zero, suc, _+_, _*_, _-_, _/_, _≤_, _<_, min}
 use native.Mathlib.Nat.{le-add-right, mul-le-mul-left, mul-le-mul-right, div-eq-of-lt-le, div-mul-le-self, lt-div-mul-add}
 use native.Mathlib.Numerals.{sub-one}
@@ -11,8 +11,10 @@ use lib.Dec.{leb, eqb}
 use Rattle.shares.specs.declared.Costs.{Costs}
 use Rattle.shares.specs.Model.{first, left, capacity}
 use Rattle.shares.specs.Capacity.{first-none, capacity-no-node, capacity-next, first-most, none-fits, longer}
-use Rattle.shares.specs.Least.{IsEarliest, least-window}
+use Rattle.shares.specs.Least.{IsEarliest}
+use Rattle.shares.specs.Answers.{both-true}
 
+-- the four costs, one by one
 abbrev pub costsOf : ℕ → ℕ → ℕ → ℕ → Costs
 costsOf m p l s = record { send = m; compute = p; linksetup = l; nodesetup = s }
 
@@ -45,11 +47,12 @@ pub record Found (c : Costs) (n w s g units spare gap : ℕ) : Type 0 where
 
 -- ---- One node more
 
-pub spare-no-node : (c : Costs) (w s : ℕ) → spareOf c 0 w s ≡ s
+-- Without nodes nothing is counted.
+spare-no-node : (c : Costs) (w s : ℕ) → spareOf c 0 w s ≡ s
 unfolding spareOf
 spare-no-node c w s = refl
 
-pub gap-no-node : (c : Costs) (w g : ℕ) → gapOf c 0 w g ≡ g
+gap-no-node : (c : Costs) (w g : ℕ) → gapOf c 0 w g ≡ g
 unfolding gapOf
 gap-no-node c w g = refl
 
@@ -63,42 +66,42 @@ gap-holds : (c : Costs) (n w g : ℕ) → c .send + c .compute ≤ room c w
 unfolding gapOf
 gap-holds c n w g k = rw (le-leb (c .send + c .compute) (room c w) k)
 
-pub spare-next : (c : Costs) (n w s : ℕ) → 1 ≤ n → c .send + c .compute ≤ room c w → spareOf c n w s ≡ spareOf c (n - 1) (left c w (first c w)) (min s (over c w))
+spare-next : (c : Costs) (n w s : ℕ) → 1 ≤ n → c .send + c .compute ≤ room c w → spareOf c n w s ≡ spareOf c (n - 1) (left c w (first c w)) (min s (over c w))
 spare-next c zero w s h k = absurd (omega arith)
 spare-next c (suc n) w s h k = rw (sub-one (suc n)) (spare-holds c n w s k)
 
-pub gap-next : (c : Costs) (n w g : ℕ) → 1 ≤ n → c .send + c .compute ≤ room c w
+gap-next : (c : Costs) (n w g : ℕ) → 1 ≤ n → c .send + c .compute ≤ room c w
     → gapOf c n w g ≡ gapOf c (n - 1) (left c w (first c w)) (min g (c .send + c .compute - over c w))
 gap-next c zero w g h k = absurd (omega arith)
 gap-next c (suc n) w g h k = rw (sub-one (suc n)) (gap-holds c n w g k)
 
--- The first node that holds none counts in the gap, and ends both.
-pub spare-none : (c : Costs) (n w s : ℕ) → room c w < c .send + c .compute → spareOf c n w s ≡ s
+-- The first node that holds none counts in the gap alone, and the rest do not count.
+spare-none : (c : Costs) (n w s : ℕ) → room c w < c .send + c .compute → spareOf c n w s ≡ s
 unfolding spareOf
 spare-none c zero w s k = refl
 spare-none c (suc n) w s k = rw (lt-leb (c .send + c .compute) (room c w) k)
 
-pub gap-none : (c : Costs) (n w g : ℕ) → 1 ≤ n → room c w < c .send + c .compute → gapOf c n w g ≡ min g (c .send + c .compute - room c w)
+gap-none : (c : Costs) (n w g : ℕ) → 1 ≤ n → room c w < c .send + c .compute → gapOf c n w g ≡ min g (c .send + c .compute - room c w)
 unfolding gapOf
 gap-none c zero w g h k = absurd (omega arith)
 gap-none c (suc n) w g h k = rw (lt-leb (c .send + c .compute) (room c w) k)
 
 module _ (c : Costs) (sends : 1 ≤ c .send) where
   -- The first share takes what it can of the room.
-  pub first-within : (w : ℕ) → first c w * (c .send + c .compute) ≤ room c w
+  first-within : (w : ℕ) → first c w * (c .send + c .compute) ≤ room c w
   unfolding first
   first-within w = div-mul-le-self (room c w) (c .send + c .compute)
 
-  pub first-below : (w : ℕ) → room c w < first c w * (c .send + c .compute) + (c .send + c .compute)
+  first-below : (w : ℕ) → room c w < first c w * (c .send + c .compute) + (c .send + c .compute)
   unfolding first
   first-below w = lt-div-mul-add (omega arith)
 
   -- Only the first share does.
-  pub first-is : (w q : ℕ) → q * (c .send + c .compute) ≤ room c w → room c w < q * (c .send + c .compute) + (c .send + c .compute) → first c w ≡ q
+  first-is : (w q : ℕ) → q * (c .send + c .compute) ≤ room c w → room c w < q * (c .send + c .compute) + (c .send + c .compute) → first c w ≡ q
   unfolding first
   first-is w q h k = div-eq-of-lt-le (c .send + c .compute) h (omega arith)
 
-  -- Neither number grows with the nodes.
+  -- A node makes neither number larger.
   spare-most : (n w s : ℕ) → spareOf c n w s ≤ s
   unfolding spareOf
   spare-most zero w s = omega arith
@@ -164,7 +167,7 @@ module _ (c : Costs) (sends : 1 ≤ c .send) where
           let e : l + (left c (w + d) (first c w) - l) ≡ left c (w + d) (first c w) = omega arith in
           rw (q, ← r, e)
 
-  -- m ticks more, less those that are missing, are fewer than the gap: the nodes hold no more.
+  -- A window longer by m ticks less d + 1, where m is at most d and the gap together, holds no more.
   no-growth : (n l v g d : ℕ) → v ≤ l + (c .send - suc d) → c .send ≤ d + gapOf c n l g → capacity c n v ≤ capacity c n l
   no-growth n l v g d h j =
       elim (decLe (c .send) d) [
@@ -172,7 +175,7 @@ module _ (c : Costs) (sends : 1 ≤ c .send) where
         | no k ↦ omega (arith, longer c sends n {w = v} {v = l + (c .send - suc d)} h, gap-same n l g (c .send - suc d) (omega arith))
       ]
 
-  -- One tick less than the spare allows: a share falls by one unit, and what it leaves is too little longer for another to grow.
+  -- One tick less than the spare allows: a share falls by one unit, and what it leaves is not enough longer for another to grow.
   pub spare-fewer : (n w s g : ℕ) → spareOf c n w s < s → c .send ≤ spareOf c n w s + gapOf c n w g → capacity c n (w - suc (spareOf c n w s)) < capacity c n w
   unfolding capacity left
   spare-fewer zero w s g h j = absurd (omega (arith, spare-no-node c w s))
@@ -236,11 +239,6 @@ module _ (c : Costs) (sends : 1 ≤ c .send) where
         | no k ↦ absurd (omega (arith, none-fits c sends (suc n) w w (first-none c w (omega arith)) (omega arith)))
       ]
 
-both-true : (a b : Bool) → (a && b) ≡ true → (a ≡ true) × (b ≡ true)
-both-true true true e = (refl, refl)
-both-true true false e = absurd (false≢true e)
-both-true false b e = absurd (false≢true e)
-
 -- ---- The code's steps: x is the room, worked out in two differences
 
 module _ (c : Costs) (sends : 1 ≤ c .send) where
@@ -251,9 +249,11 @@ module _ (c : Costs) (sends : 1 ≤ c .send) where
       let e = c .send + c .compute in
       (div-mul-le-self x e, lt-div-mul-add (omega arith), omega (arith, div-mul-le-self x e, mul-le-mul-left (x / e) (le-add-right (c .send) (c .compute))))
 
+  -- The room in one difference.
   room-is : (w v x : ℕ) → v ≡ w - c .linksetup → x ≡ v - c .nodesetup → x ≡ room c w
   room-is w v x e i = omega arith
 
+  -- What the code finds without nodes, where the first holds none, and where it holds a share.
   pub found-no-node : (n w s g : ℕ) → n ≡ 0 → Found c n w s g 0 s g
   found-no-node n w s g e = rw e (record { held = sym (capacity-no-node c w); less = sym (spare-no-node c w s); more = sym (gap-no-node c w g) })
 
@@ -283,11 +283,11 @@ module _ (c : Costs) (sends : 1 ≤ c .send) where
         more = rw (gap-next c n w g h fits, f .more, el, eg, r);
       }
 
-  -- What a tried window was found to hold tells the least window, where it settles it.
-  pub settled-found : (n z w s g units spare gap : ℕ) → 1 ≤ z → w ≤ s → Found c n w s g units spare gap → (eqb units z && leb (c .send - spare) gap) ≡ true
-      → (spare < w) × IsEarliest c n z (w - spare)
-  settled-found n z w s g units spare gap h k f e =
-      let t = both-true (eqb units z) (leb (c .send - spare) gap) e in
+  -- Where the test says that a tried window tells the least one, it does.
+  pub settled-found : (n z w s g units spare gap : ℕ) (b : Bool) → 1 ≤ z → w ≤ s → Found c n w s g units spare gap
+      → b ≡ (eqb units z && leb (c .send - spare) gap) → b ≡ true → (spare < w) × IsEarliest c n z (w - spare)
+  settled-found n z w s g units spare gap b h k f e y =
+      let t = both-true (eqb units z) (leb (c .send - spare) gap) (sym e ∙ y) in
       let all : units ≡ z = eqb-true units z (t .0) in
       let held : units ≡ capacity c n w = f .held in
       let within : spareOf c n w s < w = spare-within c sends n w s (omega arith) in

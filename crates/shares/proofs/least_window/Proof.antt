@@ -1,7 +1,7 @@
 -- `shares::least_window` meets its contract. The loop's invariant: the least window is not above `high`, and every window below
 -- `low` is too short. The measure is what lies between them.
 use mathlib.Core.Path.{_≡_, refl, sym, _∙_}
-use Prim.Native.Nat.{ℕ, _-_, _≤_, _<_}
+use Prim.Native.Nat.{ℕ, _+_, _-_, _≤_, _<_}
 use native.Mathlib.Omega.{arith}
 use borrow.Author.Needs.{needs}
 use Rattle.shares.specs.Model.{capacity, earliest}
@@ -53,20 +53,23 @@ sub-result : tie.Need-sub-result Inv-loop μ-loop
 sub-result c =
     let a = c .before .before .before .before .before .before .before .before .before .before .before .before .before .before .before .args in
     let sends : 1 ≤ a .costs .send = c .before .before .before .before .before .before .before .before .before .before .before .before .before .before .before .pre .0 in
-    let l = c .before .before .before .before .before .before .before .before .before .before .loop in
     let middle = c .before .before .before .before .before .before .before .next-window .result in
     let r = c .before .before .before .before .before .before .try-window2 .result in
-    omega (arith, settled-found (a .costs) sends (a .nodes) (a .size) middle _ _ (r .units) (r .spare) (r .gap) (c .before .before .before .before .before .before .before .before .before .before .before .before .before .before .before .pre .3) (omega arith) (c .before .before .before .before .before .before .try-window2 .ensures) (sym (c .before .before .settles .ensures) ∙ c .before .if3 .taken) .0)
+    omega (
+      arith,
+      settled-found (a .costs) sends (a .nodes) (a .size) middle 18446744073709551615 (a .costs .send + a .costs .compute) (r .units) (r .spare) (r .gap)
+          (c .before .before .settles .result) (c .before .before .before .before .before .before .before .before .before .before .before .before .before .before .before .pre .3) (omega arith) (c .before .before .before .before .before .before .try-window2 .ensures) (c .before .before .settles .ensures) (c .before .if3 .taken) .0,
+    )
 
 returns-2 : tie.Need-returns-2 Inv-loop μ-loop
 returns-2 c =
     let a = c .before .before .before .before .before .before .before .before .before .before .before .before .before .before .before .args in
     let sends : 1 ≤ a .costs .send = c .before .before .before .before .before .before .before .before .before .before .before .before .before .before .before .pre .0 in
-    let l = c .before .before .before .before .before .before .before .before .before .before .loop in
     let middle = c .before .before .before .before .before .before .before .next-window .result in
     let r = c .before .before .before .before .before .before .try-window2 .result in
-    let least = settled-found (a .costs) sends (a .nodes) (a .size) middle _ _ (r .units) (r .spare) (r .gap) (c .before .before .before .before .before .before .before .before .before .before .before .before .before .before .before .pre .3) (omega arith) (c .before .before .before .before .before .before .try-window2 .ensures) (sym (c .before .before .settles .ensures) ∙ c .before .if3 .taken) .1 in
-    sym (earliest-is (a .costs) sends (a .nodes) (a .size) (a .window) (middle - r .spare) least (omega arith))
+    let least = settled-found (a .costs) sends (a .nodes) (a .size) middle 18446744073709551615 (a .costs .send + a .costs .compute) (r .units) (r .spare) (r .gap)
+    (c .before .before .settles .result) (c .before .before .before .before .before .before .before .before .before .before .before .before .before .before .before .pre .3) (omega arith) (c .before .before .before .before .before .before .try-window2 .ensures) (c .before .before .settles .ensures) (c .before .if3 .taken) in
+    sym (earliest-is (a .costs) sends (a .nodes) (a .size) (a .window) (middle - r .spare) (least .1) (omega arith))
 
 loop-less : tie.Need-loop-less Inv-loop μ-loop
 loop-less c = search needs
