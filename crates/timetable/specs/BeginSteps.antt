@@ -1,8 +1,7 @@
 -- What the functions of src/begin.rt promise each other, and their loops' steps.
 use mathlib.Core.Path.{_≡_, refl, ap, ap₂, sym, _∙_}
 use mathlib.Core.List.{List, [], _∷_, _++_, append-nil, append-assoc}
-use mathlib.Core.Bool.{Bool, true, false, cond, false≢true}
-use Prim.Native.Nat.{ℕ, suc, _+_, _-_, _≤_, _<_}
+use Prim.Native.Nat.{ℕ, _+_, _-_, _≤_, _<_}
 use native.Mathlib.Numerals.{add-one}
 use native.Mathlib.Omega.{arith}
 use borrow.Author.Tests.{le-leb, lt-leb}
@@ -13,20 +12,10 @@ use Rattle.shares.specs.declared.Costs.{Costs}
 use Rattle.walk.specs.declared.Job.{Job}
 use Rattle.walk.specs.declared.Busy.{Busy}
 use Rattle.walk.specs.declared.Chunk.{Chunk}
-use Rattle.walk.specs.Model.{noJob, linesOf, afters}
+use Rattle.walk.specs.Model.{noJob, afters}
 use Rattle.walk.specs.Chunks.{Sends}
 use Rattle.walk.specs.OrderSteps.{rest-more}
-use Rattle.timetable.specs.Model.{startsBy, startsAfter, keep, linesOfAll}
-
--- how many jobs at the front of a list start by t
-unfoldable pub starting : ℕ → List Job → ℕ
-starting t [] = 0
-starting t (j ∷ js) = cond (startsBy t j) (suc (starting t js)) 0
-
--- one of the jobs starts by t
-unfoldable pub anyBy : ℕ → List Job → Bool
-anyBy t [] = false
-anyBy t (j ∷ js) = cond (startsBy t j) true (anyBy t js)
+use Rattle.timetable.specs.Model.{startsAfter, keep}
 
 -- how many chunks jobs have
 unfoldable pub chunks : List Job → ℕ
@@ -49,43 +38,21 @@ pub record RaisesAll (c : Costs) (held : List ℕ) (js : List Job) : Type 0 wher
   pub shows : All (λ (j : Job). (1 ≤ j .show) × (j .show ≤ 32)) js
   pub room : All (λ (j : Job). getD held (j .show - 1) 0 ≤ 64_000_000_000_000) js
 
--- ---- The first n jobs of an array, one by one
-
+-- The free times behind two lists of lines, one after the other.
 pub afters-append : (b : Busy) (xs ys : List Chunk) → afters b (xs ++ ys) ≡ afters (afters b xs) ys
 unfolding afters
 afters-append b [] ys = refl
 afters-append b (x ∷ xs) ys = afters-append _ xs ys
 
+-- ---- The first n jobs of an array, one by one
+
 module _ (jobs : List Job) (n i : ℕ) (h : i < n) (f : n ≤ length jobs) where
   abbrev jobs-next : drop i (take n jobs) ≡ getD jobs i noJob ∷ drop (i + 1) (take n jobs)
   jobs-next = front-next noJob jobs n i h f
 
-  -- It starts by t, or not.
-  pub starting-more : (t : ℕ) → getD jobs i noJob .booking .start ≤ t → starting t (drop i (take n jobs)) ≡ suc (starting t (drop (i + 1) (take n jobs)))
-  unfolding starting
-  starting-more t k = rw (jobs-next, le-leb (getD jobs i noJob .booking .start) t k)
-
-  pub starting-stop : (t : ℕ) → t < getD jobs i noJob .booking .start → starting t (drop i (take n jobs)) ≡ 0
-  unfolding starting
-  starting-stop t k = rw (jobs-next, lt-leb (getD jobs i noJob .booking .start) t k)
-
-  pub any-more : (t : ℕ) → t < getD jobs i noJob .booking .start → anyBy t (drop i (take n jobs)) ≡ anyBy t (drop (i + 1) (take n jobs))
-  unfolding anyBy
-  any-more t k = rw (jobs-next, lt-leb (getD jobs i noJob .booking .start) t k)
-
-  pub any-stop : (t : ℕ) → getD jobs i noJob .booking .start ≤ t → anyBy t (drop i (take n jobs)) ≡ true
-  unfolding anyBy
-  any-stop t k = rw (jobs-next, le-leb (getD jobs i noJob .booking .start) t k)
-
   pub chunks-next : chunks (drop i (take n jobs)) ≡ getD jobs i noJob .booking .count + chunks (drop (i + 1) (take n jobs))
   unfolding chunks
   chunks-next = rw jobs-next
-
-  -- The free times behind its chunks.
-  pub afters-next : (c : Costs) (b : Busy)
-      → afters b (linesOfAll c (drop i (take n jobs))) ≡ afters (afters b (linesOf c (getD jobs i noJob))) (linesOfAll c (drop (i + 1) (take n jobs)))
-  unfolding linesOfAll
-  afters-next c b = rw jobs-next (afters-append b (linesOf c (getD jobs i noJob)) _)
 
   -- It waits on, or has begun.
   pub keep-next : (t : ℕ) → t < getD jobs i noJob .booking .start
@@ -97,16 +64,6 @@ module _ (jobs : List Job) (n i : ℕ) (h : i < n) (f : n ≤ length jobs) where
       → keep (startsAfter t) (drop i (take n jobs)) ≡ keep (startsAfter t) (drop (i + 1) (take n jobs))
   unfolding keep
   keep-past t k = rw (jobs-next, le-leb (getD jobs i noJob .booking .start) t k)
-
--- Where none starts by t, each starts after it.
-pub none-by : (t : ℕ) (js : List Job) → anyBy t js ≡ false → All (λ (j : Job). startsBy t j ≡ false) js
-unfolding anyBy
-none-by t [] e = tt
-none-by t (j ∷ js) e = go (startsBy t j) refl e (none-by t js)
-  where
-    go : (b : Bool) → startsBy t j ≡ b → cond b true (anyBy t js) ≡ false → (anyBy t js ≡ false → All (λ (k : Job). startsBy t k ≡ false) js) → All (λ (k : Job). startsBy t k ≡ false) (j ∷ js)
-    go true q h r = absurd (false≢true (sym h))
-    go false q h r = (q, r h)
 
 -- ---- What is kept of an array
 

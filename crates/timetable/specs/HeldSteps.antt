@@ -3,17 +3,15 @@ use mathlib.Core.Path.{_≡_, refl, ap, _∙_}
 use mathlib.Core.List.{List, [], _∷_, _++_}
 use Prim.Native.Nat.{ℕ, zero, suc, _+_, _*_, _-_, _≤_, _<_}
 use native.Mathlib.Omega.{arith}
-use lib.ListN.{length, getD, take, drop, set, length-set}
-use Rattle.lists.specs.Laws.{all-front, front-next}
+use lib.ListN.{length, getD, set, length-set}
 use Rattle.shares.specs.declared.Costs.{Costs}
 use Rattle.shares.specs.Model.{sendEnd, chunkFinish, finish}
 use Rattle.booking.specs.Best.{chosen, units}
 use Rattle.walk.specs.declared.Job.{Job}
 use Rattle.walk.specs.declared.Chunk.{Chunk}
-use Rattle.walk.specs.Model.{greatest, noJob, chunkAt, chunksFrom, Span, placed, spansFrom, spansOf, spansOfAll}
+use Rattle.walk.specs.Model.{greatest, chunkAt, chunksFrom, Span, placed, spansFrom, spansOf}
 use Rattle.walk.specs.Chunks.{Sends, linesFrom, latestFrom, lines-next, ends-next}
 use Rattle.timetable.specs.Model.{raised}
-use Rattle.timetable.specs.BeginSteps.{Raises, RaisesAll}
 
 -- a cell with more in it
 abbrev pub addTo : List ℕ → ℕ → ℕ → List ℕ
@@ -74,23 +72,4 @@ raising-next c j s first cells t i h x =
       ends = n .1;
       from = omega (arith, x .from);
       most = omega (arith, more, x .most, n .0);
-    }
-
--- ---- The jobs, one by one
-
-pub raised-next : (c : Costs) (jobs : List Job) (n i : ℕ) → i < n → n ≤ length jobs → (hs : List ℕ)
-    → raised hs (spansOfAll c (drop i (take n jobs))) ≡ raised (raised hs (spansOf c (getD jobs i noJob))) (spansOfAll c (drop (i + 1) (take n jobs)))
-unfolding spansOfAll
-raised-next c jobs n i h f hs = rw (front-next noJob jobs n i h f) (raised-append hs (spansOf c (getD jobs i noJob)) _)
-
--- A job that comes behind fewer than 128 others can begin.
-pub raises-next : (c : Costs) (held cells : List ℕ) (jobs : List Job) (n i : ℕ) → i < n → n ≤ 128 → n ≤ length jobs → RaisesAll c held (take n jobs)
-    → ((k : ℕ) → getD cells k 0 ≤ getD held k 0 + i * 64_000_000_000_000) → Raises c cells (getD jobs i noJob)
-raises-next c held cells jobs n i h m f x most =
-    let j = getD jobs i noJob in
-    let room = all-front noJob (λ (y : Job). getD held (y .show - 1) 0 ≤ 64_000_000_000_000) jobs n i h f (x .room) in
-    record {
-      sends = all-front noJob (Sends c) jobs n i h f (x .sends);
-      show = all-front noJob (λ (y : Job). (1 ≤ y .show) × (y .show ≤ 32)) jobs n i h f (x .shows);
-      room = omega (arith, room, most (j .show - 1));
     }

@@ -4,4 +4,5 @@ pub mod BeginSteps
 pub mod DueSteps
 pub mod HeldSteps
 pub mod LinesSteps
+pub mod BegunSteps
 pub mod Keep

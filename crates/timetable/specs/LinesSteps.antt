@@ -160,7 +160,7 @@ writing-all c jobs keys n k first rows at h f x =
     let g : at ≡ chunks (inOrder jobs (take n keys)) = omega arith in
     sym (x .same ∙ rw (none, g) (filled-all rows (chunks (inOrder jobs (take n keys)))))
 
--- A named job can be sent.
-pub named-sends : (c : Costs) (jobs : List Job) (keys : List Key) (n k : ℕ) → k < n → n ≤ length keys → All (Sends c) (inOrder jobs (take n keys)) → Sends c (getD jobs (getD keys k noKey .place) noJob)
-named-sends c jobs keys n k h f a =
-    all-front noKey (λ (x : Key). Sends c (getD jobs (x .place) noJob)) keys n k h f (image-all (Sends c) (λ (x : Key). getD jobs (x .place) noJob) (take n keys) a)
+-- What holds of all named jobs holds of each.
+pub named-all : (P : Job → Type 0) (jobs : List Job) (keys : List Key) (n k : ℕ) → k < n → n ≤ length keys → All P (inOrder jobs (take n keys)) → P (getD jobs (getD keys k noKey .place) noJob)
+named-all P jobs keys n k h f a =
+    all-front noKey (λ (x : Key). P (getD jobs (x .place) noJob)) keys n k h f (image-all P (λ (x : Key). getD jobs (x .place) noJob) (take n keys) a)

@@ -1,5 +1,5 @@
-// What a clock move begins: the jobs in order of start, their lines, and what they leave in free times, held ticks and
-// the row of waiting jobs. It knows jobs and chunks, and no farm. What each function means is in specs/Model.antt.
+// What a clock move begins: the jobs in order of start, their lines, and what they leave in free times and held ticks.
+// It knows jobs and chunks, and no farm. What each function means is in specs/Model.antt.
 pub mod begin;
 pub mod lines;
 
