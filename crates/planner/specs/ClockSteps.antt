@@ -2,12 +2,12 @@
 use mathlib.Core.Path.{_≡_, refl, ap, sym, subst, _∙_}
 use mathlib.Core.List.{List, [], _∷_, _++_, Permᴰ·symm}
 use mathlib.Core.Bool.{Bool, true, false, cond, not}
-use Prim.Native.Nat.{ℕ, suc, _-_, _≤_, _<_}
+use Prim.Native.Nat.{ℕ, suc, _+_, _-_, _≤_, _<_}
 use native.Mathlib.Omega.{arith}
 use borrow.Author.Tests.{leb-true, le-leb, lt-leb, eqb-true, eq-eqb, ne-eqb}
 use lib.Dec.{leb, eqb}
 use lib.ListN.{length, getD, take, drop, take-append-drop}
-use lib.Seq.{take-at, length-take-le}
+use lib.Seq.{take-at, length-take-le, getD-drop}
 use Rattle.lists.specs.Laws.{All, all-map, all-both, all-front, all-take, perm-all, perm-length}
 use Rattle.shares.specs.declared.Costs.{Costs}
 use Rattle.booking.specs.Best.{chosen}
@@ -30,7 +30,7 @@ use Rattle.planner.specs.declared.Question.the-variants as question
 use Rattle.planner.specs.declared.Answer.the-variants as answer
 use Rattle.planner.specs.declared.Move.{Move}
 use Rattle.planner.specs.declared.clock.Issue.{Issue}
-use Rattle.planner.specs.Model.{greatest, between, Between, spansOfAll, afters, inOrder, byStart, waitingOf, busyOf, JobSized, Sized}
+use Rattle.planner.specs.Model.{greatest, between, Between, noJob, spansOfAll, afters, inOrder, byStart, waitingOf, busyOf, JobSized, Sized}
 use Rattle.planner.specs.Passes.{passesOf, figuresOf, JobWithin}
 use Rattle.planner.specs.PassesSteps.{passes-within, passes-jobs}
 use Rattle.planner.specs.Calls.{Clock, Shown, said, numberOf, granted, Replies}
@@ -190,6 +190,46 @@ module _ (f : Farm) (t : ℕ) (d : Due) (sized : Sized f) (x : Begins f t d) whe
 
   pub begins-count : length (issued f t) ≡ d .lines
   begins-count = all-lines (f .costs) (begun f t) (can-begin-sends f (begun f t) (begun-can-begin f sized (x .passes) t)) ∙ sym (x .due .lines)
+
+-- A job behind those that are kept is the old one.
+pub behind-same : (out old : List Job) (k i : ℕ) → k ≤ i → drop k out ≡ drop k old → getD out i noJob ≡ getD old i noJob
+behind-same out old k i h d =
+    let e : k + (i - k) ≡ i = omega arith in
+    ap (λ (x : ℕ). getD out x noJob) (sym e) ∙ sym (getD-drop k out (i - k) noJob) ∙ ap (λ (l : List Job). getD l (i - k) noJob) d ∙ getD-drop k old (i - k) noJob
+    ∙ ap (λ (x : ℕ). getD old x noJob) e
+
+-- the farm with other jobs, and with another count of them
+abbrev pub jobsAs : Farm → List Job → Farm
+jobsAs f js = record {
+  opened = f .opened;
+  nodes = f .nodes;
+  costs = f .costs;
+  shows = f .shows;
+  allowances = f .allowances;
+  held = f .held;
+  clock = f .clock;
+  link = f .link;
+  free = f .free;
+  used = f .used;
+  waiting = f .waiting;
+  jobs = js;
+}
+
+abbrev pub waitingAs : Farm → ℕ → Farm
+waitingAs f k = record {
+  opened = f .opened;
+  nodes = f .nodes;
+  costs = f .costs;
+  shows = f .shows;
+  allowances = f .allowances;
+  held = f .held;
+  clock = f .clock;
+  link = f .link;
+  free = f .free;
+  used = f .used;
+  waiting = k;
+  jobs = f .jobs;
+}
 
 -- The farm with what its parts come to is the moved farm.
 pub moved-is : (f : Farm) (t : ℕ) (ls : List Job) (b : Busy) (hs : List ℕ) (k : ℕ) (js : List Job) → ls ≡ begun f t

@@ -4,6 +4,7 @@ use Rattle.planner.proofs.clock.moving.Tie as tie
 use Rattle.planner.proofs.clock.moving.Reads as reads
 use Rattle.planner.proofs.clock.moving.Lts as lts
 use Rattle.planner.proofs.Farm.move_unchecked.Reads as move-unchecked-reads
+use Rattle.planner.proofs.Farm.moved.Reads as moved-reads
 use Rattle.planner.proofs.clock.stopped.Reads as stopped-reads
 use Rattle.planner.proofs.passing.passes.Reads as passes-reads
 use Rattle.walk.proofs.gathered.Reads as gathered-reads
@@ -26,6 +27,9 @@ returns-2 c = search needs
 gathered-requires : tie.Need-gathered-requires
 gathered-requires c κs = search needs
 
+moved-requires : tie.Need-moved-requires
+moved-requires c κs = search needs
+
 returns-3 : tie.Need-returns-3
 returns-3 c = search needs
 
@@ -39,4 +43,5 @@ moving-spec =
     move-unchecked-requires
     returns-2
     gathered-requires
+    moved-requires
     returns-3)
