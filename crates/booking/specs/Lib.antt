@@ -3,6 +3,8 @@ pub mod Model
 pub mod Search
 pub mod Best
 pub mod Rank
+pub mod Packed
+pub mod Inserting
 pub mod NoneEarlier
 pub mod Only
 pub mod Booked

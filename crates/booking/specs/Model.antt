@@ -1,6 +1,6 @@
 -- One job's booking, in the words and the order of document 01, "The deadline walk", steps 1 to 5.
 -- Everything here is a definition; nothing is assumed.
-use Prim.Native.Nat.{ℕ, suc, _+_, _-_, max}
+use Prim.Native.Nat.{ℕ, suc, _+_, _-_, _*_, _/_, _%_, _<_, max}
 use mathlib.Core.List.{List, [], _∷_, _++_, map}
 use mathlib.Core.Bool.{cond}
 use lib.Dec.{leb}
@@ -22,6 +22,22 @@ nodeKeys i (t ∷ ts) = record { time = t; number = suc i; place = i } ∷ nodeK
 -- the first n nodes in that order
 unfoldable pub ranked : ℕ → List ℕ → List Key
 ranked n free = sortKeys (nodeKeys 0 (take n free))
+
+-- a node in that order as one number, its free time and its place, which compares like the two
+abbrev pub packed : Key → ℕ
+packed x = x .time * 64 + x .place
+
+-- the node that a number stands for
+abbrev pub unpacked : ℕ → Key
+unpacked x = record { time = x / 64; number = x % 64 + 1; place = x % 64 }
+
+-- the nodes that the first n numbers stand for
+abbrev pub nodesIn : ℕ → List ℕ → List Key
+nodesIn n order = map unpacked (take n order)
+
+-- a free time whose number fits 64 bits, whatever the place
+abbrev pub Packs : ℕ → Type 0
+Packs t = t * 64 + 63 < 18446744073709551616
 
 -- ---- The earliest start
 

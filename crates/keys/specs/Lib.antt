@@ -2,4 +2,3 @@
 pub mod Model
 pub mod Sorted
 pub mod Insert
-pub mod Join
