@@ -1,29 +1,26 @@
 -- The line of an answer, as the crate printing takes it, and the chunk lines of a clock move, for src/answer.rt.
 use mathlib.Core.Path.{_≡_, refl, ap, sym, _∙_}
 use mathlib.Core.List.{List, [], _∷_, _++_, map, append-nil, append-assoc}
-use mathlib.Core.Bool.{Bool, true, false, cond}
+use mathlib.Core.Bool.{false, cond}
 use Prim.Native.Nat.{ℕ, _+_, _*_, _≤_, _<_}
 use native.Mathlib.Numerals.{add-one}
 use native.Mathlib.Omega.{arith}
-use borrow.Author.Tests.{eqb-true}
 use lib.Dec.{eqb}
-use lib.ListN.{length, getD, take, drop}
+use lib.ListN.{length, getD, take, length-map}
 use lib.Seq.{take-at, take-suc}
 use Rattle.walk.specs.declared.Chunk.{Chunk}
-use Rattle.planner.specs.declared.Farm.{Farm}
+use Rattle.timetable.specs.Model.{rowOf}
 use Rattle.planner.specs.declared.Question.{Question}
 use Rattle.planner.specs.declared.Answer.{Answer}
 use Rattle.planner.specs.declared.Question.the-variants as question
 use Rattle.planner.specs.declared.Answer.the-variants as answer
 use Rattle.planner.specs.Calls.{Said, said, numberOf}
-use Rattle.planner.specs.Clock.{issued, moveAsked, moveSaid, moveMemory, moveLines}
-use Rattle.planner.specs.ClockSteps.{move-granted}
 use Rattle.text.specs.Model.{padded}
 use Rattle.text.specs.Writing.{WroteWithin, wrote-same, wrote-join}
 use Rattle.printing.specs.declared.Line.{Line}
 use Rattle.printing.specs.declared.Word.the-variants as word
 use Rattle.printing.specs.Model.{lineText}
-use Rattle.protocol.specs.Model.{printedAs, answerText, chunkText, chunkTexts, lent}
+use Rattle.protocol.specs.Model.{printedAs, answerText, chunkText, chunkTexts}
 
 -- ---- An answer's line
 
