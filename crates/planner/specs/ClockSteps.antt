@@ -6,7 +6,7 @@ use Prim.Native.Nat.{ℕ, suc, _+_, _-_, _≤_, _<_}
 use native.Mathlib.Omega.{arith}
 use borrow.Author.Tests.{leb-true, le-leb, lt-leb, eqb-true, eq-eqb, ne-eqb}
 use lib.Dec.{leb, eqb}
-use lib.ListN.{length, getD, take, drop, take-append-drop}
+use lib.ListN.{length, getD, take, drop, take-append-drop, length-map}
 use lib.Seq.{take-at, length-take-le, getD-drop}
 use Rattle.lists.specs.Laws.{All, all-map, all-both, all-front, all-take, perm-all, perm-length}
 use Rattle.shares.specs.declared.Costs.{Costs}
@@ -324,6 +324,13 @@ move-goes f t n r jobs next sized e x g q m =
         fits = subst (λ (l : List Chunk). length l ≤ n) (sym (k .1)) (k .2);
       };
     }
+
+-- The jobs that are due, at the front of an array.
+pub due-front : (f : Farm) (t : ℕ) (d : Due) (js : List Job) → Sized f → Begins f t d → js ≡ inOrder (f .jobs) (take (d .count) (d .keys)) ++ drop (d .count) (f .jobs)
+    → take (d .count) js ≡ inOrder (f .jobs) (take (d .count) (d .keys))
+due-front f t d js sized x e =
+    ap (take (d .count)) e ∙ take-at (inOrder (f .jobs) (take (d .count) (d .keys))) (drop (d .count) (f .jobs)) (d .count)
+    (length-map (take (d .count) (d .keys)) (λ (k : Key). getD (f .jobs) (k .place) noJob) ∙ length-take-le (d .count) (d .keys) (omega (arith, begins-few f t d sized x, x .due .whole)))
 
 -- One that is refused writes nothing.
 pub move-stays : (f : Farm) (t n : ℕ) (r : Move) (jobs : List Job) → MoveDecides f t n r → r .granted ≡ false
