@@ -67,7 +67,7 @@ module _ (f : Farm) (s z d : ℕ) where
       go (suc n) q = absurd (let r = ap (λ (x : Said). x .number) (offer-stopped f s z d n q .0) in omega arith)
 
   -- What the walk of an offer past them starts from.
-  ready : offerAsked f s z d ≡ 0 → Ready (termsOf f) (queueOf f s z d)
+  ready : offerAsked f s z d ≡ 0 → Ready (termsOf f) (busyOf f) (queueOf f s z d)
   ready e = walk-ready f (newJob f s z d) (granted-offered f s z d (asked-granted f s z d e))
 
   module _ (sized : Sized f) where
