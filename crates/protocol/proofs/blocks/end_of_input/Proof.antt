@@ -31,13 +31,13 @@ same-length c = search needs
 
 returns-3 : tie.Need-returns-3
 returns-3 c =
-    let z = c .before .before .before .before .before .before .before .before .before .before in
+    let z = c .before .before .before .before .before .before .before .before .before .before .before in
     let a = z .args in
     let p = c .before .before .answer-block in
-    let full : 1 ≤ a .session .rest .fill = omega (arith, c .before .before .before .before .before .if2 .left) in
-    within-same
-    (sym (end-line (a .session) (length (a .out .now)) (c .before .before .before .before .before .before .before .if1 .left) full (rest-length (a .session) (z .good .0))))
-    (end-took (a .session) (a .out .now) (p .last .1 .1 .1 .0) (p .result) (p .ensures) (c .before .before .before .before .before .before .before .if1 .left))
+    let room = c .before .before .before .before .before .before .before .before .if1 .left in
+    let full : 1 ≤ a .session .rest .fill = omega (arith, c .before .before .before .before .before .before .if2 .left) in
+    within-same (sym (end-line (a .session) (length (a .out .now)) room full (rest-length (a .session) (z .good .0))))
+    (end-took (a .session) (a .out .now) (p .last .1 .1 .1 .1 .0) (p .result) (p .ensures) room)
 
 pub end-of-input-spec : {M : Type 1} → statement M
 end-of-input-spec =
