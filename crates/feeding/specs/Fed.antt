@@ -15,12 +15,17 @@ use Rattle.protocol.specs.Model.{Pending, Fed, behind, feed}
 use Rattle.protocol.specs.Feeding.{feed-append, stretch, stretch-join}
 use Rattle.protocol.specs.Rows.{pendingOf}
 use Rattle.protocol.specs.Promises.{Took, fedTo, largest}
+use Rattle.protocol.specs.Reachable.{Reachable, feed-reachable}
 use Rattle.feeding.specs.declared.Sent.{Sent}
 
 -- the day t is what feeding these bytes to the day s comes to
 pub record Leaves (s : Session) (bytes : List ℕ) (t : Session) : Type 0 where
   pub farm : t .farm ≡ fedTo s bytes .farm
   pub pending : pendingOf (t .rest) ≡ fedTo s bytes .pending
+
+-- A farm that was reachable still is.
+pub leaves-reachable : (s t : Session) (bytes : List ℕ) → Leaves s bytes t → Reachable (s .farm) → Reachable (t .farm)
+leaves-reachable s t bytes x r = subst Reachable (sym (x .farm)) (feed-reachable (s .farm) (pendingOf (s .rest)) bytes r)
 
 -- what comes of a block, so much room being lent for answers
 pub record Answers (s : Session) (block : List ℕ) (room : ℕ) (r : Sent) : Type 0 where

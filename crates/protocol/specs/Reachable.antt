@@ -31,6 +31,10 @@ reachable-passes f r o = reached-passes f (r o)
 pub reachable-sized : (f : Farm) → Reachable f → f .opened ≡ true → Sized f
 reachable-sized f r o = reached-sized f (r o)
 
+-- The unopened farm is reachable.
+pub unopened-reachable : Reachable unopened
+unopened-reachable o = absurd (false≢true o)
+
 -- An opening hands back a farm that it reached, or one that is not opened.
 opening-reachable : (n : ℕ) (c : Costs) (al : List ℕ) → Reachable (openFarm n c al)
 unfolding openSaid openFarm

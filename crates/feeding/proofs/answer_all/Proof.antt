@@ -7,15 +7,15 @@ use native.Mathlib.Omega.{arith}
 use lib.ListN.{length}
 use Rattle.protocol.specs.Feeding.{stretch}
 use Rattle.protocol.specs.Promises.{largest}
-use Rattle.feeding.specs.Fed.{Leaves, fed-start, fed-more, took-some}
+use Rattle.feeding.specs.Fed.{Leaves, leaves-reachable, fed-start, fed-more, took-some}
 use Rattle.feeding.proofs.answer_all.Statement.{statement}
 use Rattle.feeding.proofs.answer_all.Tie as tie
 
 abbrev Inv-loop : tie.InvT-loop
-Inv-loop output block out₀ day₀ next₀ turns₀ out day next turns = (length out ≡ length out₀) × Leaves day₀ (stretch 0 next block) day × (turns < 18446744073709551615 → largest ≤ length out₀ → 0 < next)
+Inv-loop output block rows₀ out₀ day₀ next₀ turns₀ rows out day next turns = (length out ≡ length out₀) × Leaves day₀ (stretch 0 next block) day × (turns < 18446744073709551615 → largest ≤ length out₀ → 0 < next)
 
 abbrev μ-loop : tie.MeasureT-loop
-μ-loop output block out₀ day₀ next₀ turns₀ out day next turns = turns
+μ-loop output block rows₀ out₀ day₀ next₀ turns₀ rows out day next turns = turns
 
 loop-holds : tie.Need-loop-holds Inv-loop μ-loop
 loop-holds c = let a = c .before .before .args in (refl, fed-start (a .session) (a .block .now), λ h room. absurd (omega arith))
@@ -32,7 +32,10 @@ sub-turns : tie.Need-sub-turns Inv-loop μ-loop
 sub-turns c = search needs
 
 answer-block-requires : tie.Need-answer-block-requires Inv-loop μ-loop
-answer-block-requires c κs = search needs
+answer-block-requires c κs =
+    let l = c .before .before .before .before .loop in
+    let a = c .before .before .before .before .before .before .before in
+    leaves-reachable (a .args .session) (l .day) _ (l .inv .1) (a .pre)
 
 sub-write-all : tie.Need-sub-write-all Inv-loop μ-loop
 sub-write-all c = search needs
@@ -43,8 +46,8 @@ part-write-all-start c = search needs
 part-write-all-end : tie.Need-part-write-all-end Inv-loop μ-loop
 part-write-all-end c =
     let b = c .before .before .before .before .answer-block in
-    let l = c .before .before .before .before .before .before .before .before .loop in
-    let k : length (b .last .1 .1 .1 .0) ≡ length (l .out) = b .kept .1 .1 .1 .0 in
+    let l = c .before .before .before .before .before .before .before .before .before .loop in
+    let k : length (b .last .1 .1 .1 .1 .0) ≡ length (l .out) = b .kept .1 .1 .1 .1 .0 in
     let w : b .result .written ≤ length (l .out) = omega (arith, b .ensures .wrote .within) in
     omega arith
 
@@ -57,11 +60,11 @@ same-length-2 c = search needs
 returns-2 : tie.Need-returns-2 Inv-loop μ-loop
 returns-2 c =
     let b = c .before .before .before .before .before .before .before .answer-block in
-    let l = c .before .before .before .before .before .before .before .before .before .before .before .loop in
+    let l = c .before .before .before .before .before .before .before .before .before .before .before .before .loop in
     record {
       day = fed-more _ _ _ (l .next) _ _ (b .result) (l .inv .1) (b .ensures);
       all = λ e. absurd (false≢true e);
-      some = λ e room. omega (arith, took-some _ _ (l .next) _ _ (b .result) (b .ensures) (c .before .before .before .before .before .before .before .before .before .before .loop-test .taken) (omega (arith, l .inv .0)));
+      some = λ e room. omega (arith, took-some _ _ (l .next) _ _ (b .result) (b .ensures) (c .before .before .before .before .before .before .before .before .before .before .before .loop-test .taken) (omega (arith, l .inv .0)));
     }
 
 loop-less : tie.Need-loop-less Inv-loop μ-loop
@@ -70,10 +73,10 @@ loop-less c = search needs
 loop-again : tie.Need-loop-again Inv-loop μ-loop
 loop-again c =
     let b = c .before .before .before .before .before .before .before .answer-block in
-    let l = c .before .before .before .before .before .before .before .before .before .before .before .loop in (
-      b .kept .1 .1 .1 .0 ∙ l .inv .0,
+    let l = c .before .before .before .before .before .before .before .before .before .before .before .before .loop in (
+      b .kept .1 .1 .1 .1 .0 ∙ l .inv .0,
       fed-more _ _ _ (l .next) _ _ (b .result) (l .inv .1) (b .ensures),
-      λ h room. omega (arith, took-some _ _ (l .next) _ _ (b .result) (b .ensures) (c .before .before .before .before .before .before .before .before .before .before .loop-test .taken) (omega (arith, l .inv .0))),
+      λ h room. omega (arith, took-some _ _ (l .next) _ _ (b .result) (b .ensures) (c .before .before .before .before .before .before .before .before .before .before .before .loop-test .taken) (omega (arith, l .inv .0))),
     )
 
 same-length-3 : tie.Need-same-length-3 Inv-loop μ-loop
