@@ -1,13 +1,16 @@
-//! `bench PROGRAM` times a program, `second` and `second --whole` on the same
-//! long days, taking turns, and compares medians of time and peak resident
-//! memory.
+//! `bench PROGRAM [BEFORE]` times a program, `second` and `second --whole` on the
+//! same long days, taking turns, and compares medians of time and peak resident
+//! memory. BEFORE is an earlier build of the program; it takes its turn in the
+//! same run, and the line also says how many times quicker the program is than
+//! that build, and its memory beside that build's. Both must write the same
+//! bytes as `second` and end well.
 
 use second::long_days::{long_days, LongDay};
 use second::program::answers;
 use std::fs::{self, File};
 use std::io::{self, Read, Write};
 use std::path::{Path, PathBuf};
-use std::process::{Command, ExitCode, Stdio};
+use std::process::{Command, ExitCode, Output, Stdio};
 use std::sync::mpsc;
 use std::time::{Duration, Instant};
 
@@ -16,46 +19,83 @@ const REPETITIONS: usize = 5;
 /// How long a program may take to answer all lines before its memory is read.
 const PATIENCE: Duration = Duration::from_secs(60);
 
+/// The programs that are run on each day.
+struct Programs<'a> {
+    program: &'a Path,
+    second: &'a Path,
+    before: Option<&'a Path>,
+}
+
 fn main() -> ExitCode {
-    let Some(program) = std::env::args_os().nth(1).map(PathBuf::from) else {
-        eprintln!("bench PROGRAM");
-        return ExitCode::FAILURE;
+    let arguments: Vec<PathBuf> = std::env::args_os().skip(1).map(PathBuf::from).collect();
+    let (program, before) = match &arguments[..] {
+        [program] => (program, None),
+        [program, before] => (program, Some(before.as_path())),
+        _ => {
+            eprintln!("bench PROGRAM [BEFORE]");
+            return ExitCode::FAILURE;
+        }
     };
-    match bench(&program) {
+    match bench(program, before) {
         Ok(()) => ExitCode::SUCCESS,
         Err(error) => {
-            eprintln!("{}: {error}", program.display());
+            eprintln!("{error}");
             ExitCode::FAILURE
         }
     }
 }
 
-fn bench(program: &Path) -> io::Result<()> {
-    let second = std::env::current_exe()?.with_file_name("second");
+fn bench(program: &Path, before: Option<&Path>) -> io::Result<()> {
+    let programs = Programs {
+        program,
+        second: &std::env::current_exe()?.with_file_name("second"),
+        before,
+    };
     let file = std::env::temp_dir().join(format!("bench-{}.day", std::process::id()));
     for day in long_days() {
         fs::write(&file, &day.bytes)?;
-        let measured = measure(program, &second, &file, &day);
+        let measured =
+            check_answers(&programs, &file, &day).and_then(|()| measure(&programs, &file, &day));
         fs::remove_file(&file)?;
         println!("{}", measured?);
     }
     Ok(())
 }
 
-/// One line about one day.
-fn measure(program: &Path, second: &Path, file: &Path, day: &LongDay) -> io::Result<String> {
-    let mut times = [Vec::new(), Vec::new(), Vec::new()];
-    for _ in 0..REPETITIONS {
-        times[0].push(time(Command::new(program), file)?);
-        times[1].push(time(Command::new(second), file)?);
-        let mut whole = Command::new(second);
-        whole.arg("--whole");
-        times[2].push(time(whole, file)?);
+/// A program that answers otherwise does other work, so its time would say
+/// nothing.
+fn check_answers(programs: &Programs, file: &Path, day: &LongDay) -> io::Result<()> {
+    let expected = run(programs.second, file)?.stdout;
+    for path in [Some(programs.program), programs.before] {
+        let Some(path) = path else { continue };
+        let given = run(path, file)?;
+        if given.stdout != expected || !given.status.success() {
+            return Err(io::Error::other(format!(
+                "{}: {} does not answer as second does ({})",
+                day.name,
+                path.display(),
+                given.status,
+            )));
+        }
     }
-    let [program_time, second_time, whole_time] = times.map(median);
-    let program_memory = peak_memory(program, day)?;
-    let second_memory = peak_memory(second, day)?;
-    Ok(format!(
+    Ok(())
+}
+
+/// An error names the program, as there are several.
+fn run(path: &Path, file: &Path) -> io::Result<Output> {
+    let mut command = Command::new(path);
+    command.stdin(File::open(file)?).stderr(Stdio::inherit());
+    let output = command.output();
+    output.map_err(|error| io::Error::other(format!("{}: {error}", path.display())))
+}
+
+/// One line about one day.
+fn measure(programs: &Programs, file: &Path, day: &LongDay) -> io::Result<String> {
+    let times = medians(&mut commands(programs), file)?;
+    let (program_time, second_time, whole_time) = (times[0], times[1], times[2]);
+    let program_memory = peak_memory(programs.program, day)?;
+    let second_memory = peak_memory(programs.second, day)?;
+    let line = format!(
         "{}: {} lines; program {:.2} ms, second {:.2} ms, whole walks {:.2} ms; \
          times {:.2}, beside whole walks {:.2}; \
          program {program_memory} kB, second {second_memory} kB, memory {:.2}",
@@ -67,7 +107,40 @@ fn measure(program: &Path, second: &Path, file: &Path, day: &LongDay) -> io::Res
         program_time / second_time,
         program_time / whole_time,
         program_memory as f64 / second_memory as f64,
+    );
+    let (Some(before), Some(before_time)) = (programs.before, times.get(3)) else {
+        return Ok(line);
+    };
+    let before_memory = peak_memory(before, day)?;
+    Ok(format!(
+        "{line}; before {:.2} ms, times quicker {:.2}; \
+         before {before_memory} kB, memory beside before {:.2}",
+        before_time * 1e3,
+        before_time / program_time,
+        program_memory as f64 / before_memory as f64,
     ))
+}
+
+/// The commands that take turns; the earlier build is last, as it may be missing.
+fn commands(programs: &Programs) -> Vec<Command> {
+    let mut whole = Command::new(programs.second);
+    whole.arg("--whole");
+    let program = Command::new(programs.program);
+    let mut commands = vec![program, Command::new(programs.second), whole];
+    commands.extend(programs.before.map(Command::new));
+    commands
+}
+
+/// Median seconds of each command. They take turns, so that a slow moment of
+/// the machine meets them all.
+fn medians(commands: &mut [Command], file: &Path) -> io::Result<Vec<f64>> {
+    let mut times = vec![Vec::new(); commands.len()];
+    for _ in 0..REPETITIONS {
+        for (command, times) in commands.iter_mut().zip(&mut times) {
+            times.push(time(command, file)?);
+        }
+    }
+    Ok(times.into_iter().map(median).collect())
 }
 
 fn median(mut times: Vec<f64>) -> f64 {
@@ -76,7 +149,7 @@ fn median(mut times: Vec<f64>) -> f64 {
 }
 
 /// Seconds from start to end on a file.
-fn time(mut command: Command, file: &Path) -> io::Result<f64> {
+fn time(command: &mut Command, file: &Path) -> io::Result<f64> {
     command.stdin(File::open(file)?).stdout(Stdio::null());
     let begin = Instant::now();
     command.status()?;
