@@ -71,8 +71,7 @@ loop-again c =
     let same : getD (l .self .jobs) (l .i) noJob ≡ getD old (l .i) noJob = behind-same (l .self .jobs) old (l .kept) (l .i) (l .inv .0 .2) (l .inv .2 .behind) in
     ⊎-elim
     (λ x.
-    let n = keep-next old (a .t1 .waiting) (l .i) h fits (a .time) (subst (λ (j : Job). a .time < j .booking .start) same (x .0 .taken)) in
-    (
+    let n = keep-next old (a .t1 .waiting) (l .i) h fits (a .time) (subst (λ (j : Job). a .time < j .booking .start) same (x .0 .taken)) in (
       (l .inv .0 .0, omega (arith, h), omega (arith, x .2, l .inv .0)),
       rw (x .1) (ap (λ (f : Farm). jobsAs f (set (l .self .jobs) (l .kept) (getD (l .self .jobs) (l .i) noJob))) (l .inv .1)),
       rw (x .1, x .2, same) (kept-more _ old (l .self .jobs) (l .kept) (getD old (l .i) noJob) _ (omega (arith, l .inv .0, h)) (subst (Kept _ old (l .self .jobs) (l .kept)) n (l .inv .2))),

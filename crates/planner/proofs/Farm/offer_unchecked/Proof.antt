@@ -40,8 +40,7 @@ planned-requires : tie.Need-planned-requires
 planned-requires c κs =
     let t = c .before .before in
     let a = t .before .before .before .before .args in
-    let yes : offerAsked (a .self) (a .show) (a .size) (a .deadline) ≡ 0 = sym (t .before .before .ask .ensures) ∙ ap askedOf (t .enum-told .given .1) in
-    (
+    let yes : offerAsked (a .self) (a .show) (a .size) (a .deadline) ≡ 0 = sym (t .before .before .ask .ensures) ∙ ap askedOf (t .enum-told .given .1) in (
       subst (Offered (a .self)) (sym (c .new-job .ensures)) (offer-offered (a .self) (a .show) (a .size) (a .deadline) (offer-granted (a .self) (a .show) (a .size) (a .deadline) yes)),
       ap (λ (j : Job). j .number) (c .new-job .ensures),
     )

@@ -122,7 +122,7 @@ loop-again-2 c =
     let said : ended (l .farm) (pendingOf (w .result)) ≡ accountLine (l .farm) (getD (o .result .numbers) 0 0) =
     rest-row (l .farm) (w .result) ∙ ap (byRow (l .farm)) (sym (o .ensures)) ∙ row-turn (l .farm) (o .result) (sym (t .in-turn .ensures) ∙ not-false _ (c .before .before .before .before .before .before .before .before .if4 .left)) ∙ rw (c .before .before .before .before .before .enum-told .given .1) in (
       day-line (l .inv .0) (w .result) (e .ensures .0) (w .ensures) (omega (arith, e .ensures .1, t .before .before .if3 .left)) said (refl) refl
-      (within-same (ap answerText (c .before .before .before .account-unchecked .ensures)) (c .before .before .put-answer .ensures)) (omega (arith, c .before .before .put-answer .ensures .within, l .inv .1, t .before .before .before .before .before .if2 .left)),
+          (within-same (ap answerText (c .before .before .before .account-unchecked .ensures)) (c .before .before .put-answer .ensures)) (omega (arith, c .before .before .put-answer .ensures .within, l .inv .1, t .before .before .before .before .before .if2 .left)),
       l .inv .1,
     )
 
@@ -175,7 +175,7 @@ loop-again-3 c =
     let said : ended (l .farm) (pendingOf (w .result)) ≡ jobLine (l .farm) (o .result .numbers) =
     rest-row (l .farm) (w .result) ∙ ap (byRow (l .farm)) (sym (o .ensures)) ∙ row-turn (l .farm) (o .result) (sym (t .in-turn .ensures) ∙ not-false _ (c .before .before .before .before .before .before .before .before .before .before .before .before .if4 .left)) ∙ rw (c .before .before .before .before .before .before .before .before .before .enum-told2 .given .1) in (
       day-line (l .inv .0) (w .result) (e .ensures .0) (w .ensures) (omega (arith, e .ensures .1, t .before .before .if3 .left)) said (sym (d .accepts (c .before .before .before .if5 .taken) .0)) refl
-      (within-same (ap answerText (d .says)) (c .before .before .before .before .before .before .put-answer2 .ensures)) (omega (arith, c .before .before .before .before .before .before .put-answer2 .ensures .within, l .inv .1, t .before .before .before .before .before .if2 .left)),
+          (within-same (ap answerText (d .says)) (c .before .before .before .before .before .before .put-answer2 .ensures)) (omega (arith, c .before .before .before .before .before .before .put-answer2 .ensures .within, l .inv .1, t .before .before .before .before .before .if2 .left)),
       l .inv .1,
     )
 
@@ -198,7 +198,7 @@ loop-again-4 c =
     let said : ended (l .farm) (pendingOf (w .result)) ≡ jobLine (l .farm) (o .result .numbers) =
     rest-row (l .farm) (w .result) ∙ ap (byRow (l .farm)) (sym (o .ensures)) ∙ row-turn (l .farm) (o .result) (sym (t .in-turn .ensures) ∙ not-false _ (c .before .before .before .before .before .before .before .before .before .if4 .left)) ∙ rw (c .before .before .before .before .before .before .enum-told2 .given .1) in (
       day-line (l .inv .0) (w .result) (e .ensures .0) (w .ensures) (omega (arith, e .ensures .1, t .before .before .if3 .left)) said (sym (d .refuses (c .if5 .left))) refl
-      (within-same (ap answerText (d .says)) (c .before .before .before .put-answer2 .ensures)) (omega (arith, c .before .before .before .put-answer2 .ensures .within, l .inv .1, t .before .before .before .before .before .if2 .left)),
+          (within-same (ap answerText (d .says)) (c .before .before .before .put-answer2 .ensures)) (omega (arith, c .before .before .before .put-answer2 .ensures .within, l .inv .1, t .before .before .before .before .before .if2 .left)),
       l .inv .1,
     )
 
@@ -240,7 +240,7 @@ loop-again-5 c =
     let said : ended (l .farm) (pendingOf (w .result)) ≡ clockLine (l .farm) (getD (o .result .numbers) 0 0) =
     rest-row (l .farm) (w .result) ∙ ap (byRow (l .farm)) (sym (o .ensures)) ∙ row-turn (l .farm) (o .result) (sym (t .in-turn .ensures) ∙ not-false _ (c .before .before .before .before .before .before .before .before .before .before .before .if4 .left)) ∙ rw (c .before .before .before .before .before .before .before .before .enum-told3 .given .1) in (
       day-line (l .inv .0) (w .result) (e .ensures .0) (w .ensures) (omega (arith, e .ensures .1, t .before .before .if3 .left)) said (sym (k .0)) refl
-      (within-same (clock-plain (l .farm) (getD (o .result .numbers) 0 0) _ (k .1) (m .ensures .says)) (c .before .before .put-answer3 .ensures)) (omega (arith, c .before .before .put-answer3 .ensures .within, l .inv .1, t .before .before .before .before .before .if2 .left)),
+          (within-same (clock-plain (l .farm) (getD (o .result .numbers) 0 0) _ (k .1) (m .ensures .says)) (c .before .before .put-answer3 .ensures)) (omega (arith, c .before .before .put-answer3 .ensures .within, l .inv .1, t .before .before .before .before .before .if2 .left)),
       l .inv .1,
     )
 
@@ -278,7 +278,7 @@ loop-again-6 c =
     let said : ended (l .farm) (pendingOf (w .result)) ≡ clockLine (l .farm) (getD (o .result .numbers) 0 0) =
     rest-row (l .farm) (w .result) ∙ ap (byRow (l .farm)) (sym (o .ensures)) ∙ row-turn (l .farm) (o .result) (sym (t .in-turn .ensures) ∙ not-false _ (c .before .before .before .before .before .before .before .before .before .before .before .before .before .if4 .left)) ∙ rw (c .before .before .before .before .before .before .before .before .before .before .enum-told3 .given .1) in (
       day-line (l .inv .0) (w .result) (e .ensures .0) (w .ensures) (omega (arith, e .ensures .1, t .before .before .if3 .left)) said (q .0 ∙ sym (k .0)) refl
-      (within-same (clock-plain (l .farm) (getD (o .result .numbers) 0 0) _ (k .1 ∙ q .1) (m .ensures .says)) (c .before .before .put-answer4 .ensures)) (omega (arith, c .before .before .put-answer4 .ensures .within, l .inv .1, t .before .before .before .before .before .if2 .left)),
+          (within-same (clock-plain (l .farm) (getD (o .result .numbers) 0 0) _ (k .1 ∙ q .1) (m .ensures .says)) (c .before .before .put-answer4 .ensures)) (omega (arith, c .before .before .put-answer4 .ensures .within, l .inv .1, t .before .before .before .before .before .if2 .left)),
       l .inv .1,
     )
 
@@ -347,7 +347,7 @@ loop-again-7 c =
     let said : ended (l .farm) (pendingOf (w .result)) ≡ clockLine (l .farm) (getD (o .result .numbers) 0 0) =
     rest-row (l .farm) (w .result) ∙ ap (byRow (l .farm)) (sym (o .ensures)) ∙ row-turn (l .farm) (o .result) (sym (t .in-turn .ensures) ∙ not-false _ (c .before .before .before .before .before .before .before .before .before .before .before .before .before .before .before .before .before .before .before .before .if4 .left)) ∙ rw (c .before .before .before .before .before .before .before .before .before .before .before .before .before .before .before .before .before .enum-told3 .given .1) in (
       day-line (l .inv .0) (w .result) (e .ensures .0) (w .ensures) (omega (arith, e .ensures .1, t .before .before .if3 .left)) said (c .before .before .before .before .before .moved .ensures ∙ sym (k .0)) refl
-      (within-same (clock-text (l .farm) (getD (o .result .numbers) 0 0) (m .result) sized b (m .ensures) g _ _ (c .before .before .before .before .before .before .write-rows .ensures)) (c .before .before .put-move .ensures)) (omega (arith, c .before .before .put-move .ensures .within, l .inv .1, t .before .before .before .before .before .if2 .left)),
+          (within-same (clock-text (l .farm) (getD (o .result .numbers) 0 0) (m .result) sized b (m .ensures) g _ _ (c .before .before .before .before .before .before .write-rows .ensures)) (c .before .before .put-move .ensures)) (omega (arith, c .before .before .put-move .ensures .within, l .inv .1, t .before .before .before .before .before .if2 .left)),
       l .inv .1,
     )
 
@@ -381,7 +381,7 @@ loop-again-8 c =
     let said : ended (l .farm) (pendingOf (w .result)) ≡ farmLine (o .result .numbers) (allowancesIn (o .result)) =
     rest-row (l .farm) (w .result) ∙ ap (byRow (l .farm)) (sym (o .ensures)) ∙ row-turn (l .farm) (o .result) (sym (t .in-turn .ensures) ∙ not-false _ (c .before .before .before .before .before .before .before .before .before .if4 .left)) ∙ rw (c .before .before .before .before .before .before .enum-told4 .given .1) in (
       day-line (l .inv .0) (w .result) (e .ensures .0) (w .ensures) (omega (arith, e .ensures .1, t .before .before .if3 .left)) said (p .hands) refl
-      (within-same (ap answerText (p .says)) (c .before .before .put-answer5 .ensures)) (omega (arith, c .before .before .put-answer5 .ensures .within, l .inv .1, t .before .before .before .before .before .if2 .left)),
+          (within-same (ap answerText (p .says)) (c .before .before .put-answer5 .ensures)) (omega (arith, c .before .before .put-answer5 .ensures .within, l .inv .1, t .before .before .before .before .before .if2 .left)),
       l .inv .1,
     )
 
@@ -411,7 +411,7 @@ loop-again-9 c =
     let said : ended (l .farm) (pendingOf (w .result)) ≡ unread (l .farm) =
     rest-row (l .farm) (w .result) ∙ ap (byRow (l .farm)) (sym (o .ensures)) ∙ row-turn (l .farm) (o .result) (sym (t .in-turn .ensures) ∙ not-false _ (c .before .before .before .before .before .before .before .if4 .left)) ∙ rw (c .before .before .before .before .enum-told5 .given .1) in (
       day-line (l .inv .0) (w .result) (e .ensures .0) (w .ensures) (omega (arith, e .ensures .1, t .before .before .if3 .left)) said (refl) refl
-      (c .before .before .put-unread2 .ensures) (omega (arith, c .before .before .put-unread2 .ensures .within, l .inv .1, t .before .before .before .before .before .if2 .left)),
+          (c .before .before .put-unread2 .ensures) (omega (arith, c .before .before .put-unread2 .ensures .within, l .inv .1, t .before .before .before .before .before .if2 .left)),
       l .inv .1,
     )
 
