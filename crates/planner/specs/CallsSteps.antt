@@ -1,7 +1,7 @@
 -- Opening, offers and accounts, question by question: what the functions of src/calls.rt need and promise each other.
-use mathlib.Core.Path.{_≡_, refl, ap, sym, _∙_}
+use mathlib.Core.Path.{_≡_, ap, sym, _∙_}
 use mathlib.Core.List.{List, [], _∷_, _++_}
-use mathlib.Core.Bool.{Bool, true, false, cond, _&&_}
+use mathlib.Core.Bool.{true, false, _&&_}
 use Prim.Native.Nat.{ℕ, suc, _+_, _-_, _≤_, _<_}
 use native.Mathlib.Omega.{arith}
 use native.Mathlib.Numerals.{add-one}
@@ -23,7 +23,7 @@ use Rattle.planner.specs.declared.Answer.the-variants as answer
 use Rattle.planner.specs.Model.{greatest, between, costsWithin, waitingOf, termsOf, busyOf, byDeadline}
 use Rattle.planner.specs.Passes.{passesOf}
 use Rattle.planner.specs.PassesSteps.{passes-within, passes-jobs}
-use Rattle.planner.specs.Calls.{Account, said, granted, refused, numberOf, Replies, unopened, openedWith, showsWithin, openSaid, openFarm, heldBy, allowanceOf, accountSaid, planned, accepts, nextFarm, withPlan, ofNumber, yesOf, offerAsked, offerSaid, offerFarm}
+use Rattle.planner.specs.Calls.{Account, said, granted, refused, numberOf, Replies, unopened, openedWith, showsWithin, openSaid, openFarm, heldBy, allowanceOf, accountSaid, offerAsked, offerSaid, offerFarm}
 
 -- ---- Opening
 
@@ -120,19 +120,6 @@ module _ (f : Farm) (s z d : ℕ) where
   unfolding offerSaid offerFarm
   offer-refused r q e a n =
       record { says = ap (λ (x : Reply). said (x .answer)) e ∙ rw (a, n); hands = ap (λ (x : Reply). x .farm) e ∙ rw (a, n) }
-
-  -- Refused by the walk: the farm as it was.
-  pub offer-unbooked : (r : Reply) (q : Question) → numberOf q ≡ 8 → r ≡ record { answer = answer.No q; farm = f } → offerAsked f s z d ≡ 0 → accepts f s z d ≡ false
-      → Replies r (offerSaid f s z d) (offerFarm f s z d)
-  unfolding offerSaid offerFarm
-  offer-unbooked r q m e a b =
-      record { says = ap (λ (x : Reply). said (x .answer)) e ∙ rw (a, b, m); hands = ap (λ (x : Reply). x .farm) e ∙ rw (a, b) }
-
-  -- Accepted: the next farm holds the plan.
-  pub offer-booked : (r : Reply) → said (r .answer) ≡ yesOf (f .costs) (ofNumber (f .used + 1) (planned f s z d)) → r .farm ≡ withPlan f (planned f s z d)
-      → offerAsked f s z d ≡ 0 → accepts f s z d ≡ true → Replies r (offerSaid f s z d) (offerFarm f s z d)
-  unfolding offerSaid offerFarm
-  offer-booked r e g a b = record { says = e ∙ rw (a, b); hands = g ∙ rw (a, b) }
 
 -- ---- What the functions of an offer promise each other
 

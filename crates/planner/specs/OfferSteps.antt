@@ -22,14 +22,13 @@ use Rattle.walk.specs.BestWalk.{walk-best}
 use Rattle.planner.specs.declared.Farm.{Farm}
 use Rattle.planner.specs.declared.Question.{Question}
 use Rattle.planner.specs.declared.Question.the-variants as question
-use Rattle.planner.specs.declared.Answer.{Answer}
 use Rattle.planner.specs.declared.Answer.the-variants as answer
 use Rattle.planner.specs.declared.Decision.{Decision}
 use Rattle.planner.specs.declared.offers.Asked.{Asked}
 use Rattle.planner.specs.declared.offers.Asked.the-variants as asked
 use Rattle.planner.specs.Model.{greatest, between, Between, noJob, waitingOf, termsOf, busyOf, busyAfter, byDeadline, plan, booksAll}
 use Rattle.planner.specs.Passes.{passesOf}
-use Rattle.planner.specs.Calls.{said, refused, numberOf, newJob, planned, accepts, nextFarm, ofNumber, yesOf, offerAsked, offerSaid, offerFarm}
+use Rattle.planner.specs.Calls.{said, refused, numberOf, newJob, accepts, nextFarm, ofNumber, yesOf, offerAsked, offerSaid, offerFarm}
 use Rattle.planner.specs.PassesSteps.{passes-within, passes-jobs}
 use Rattle.planner.specs.CallsSteps.{Offered, walk-ready, deadline-is, place-is}
 

@@ -11,7 +11,7 @@ use lib.Seq.{take-at}
 use Rattle.lists.specs.Laws.{map-join}
 use Rattle.walk.specs.declared.Chunk.{Chunk}
 use Rattle.planner.specs.declared.Farm.{Farm}
-use Rattle.planner.specs.Calls.{Word, Open, Yes, Clock, Shown, Account, No, Said, granted, heldBy, allowanceOf, refused, openSaid, accountSaid, planned, accepts, offerAsked, offerSaid, offerFarm}
+use Rattle.planner.specs.Calls.{Word, Open, Yes, Clock, Shown, Account, No, Said, granted, heldBy, allowanceOf, refused, openSaid, accountSaid, accepts, offerAsked, offerSaid}
 use Rattle.planner.specs.Model.{between}
 use Rattle.planner.specs.Passes.{passesOf}
 use Rattle.planner.specs.Clock.{issued, moveAsked, moveSaid, moveFarm, moveMemory, moveLines}
@@ -20,7 +20,7 @@ use Rattle.reading.specs.declared.Kind.the-variants as kind
 use Rattle.reading.specs.Model.{lineKind, readable, numbersOf}
 use Rattle.protocol.specs.Model.{refusal, answerText, chunkText, chunkTexts, Answered, unread, costsIn, farmLine, jobLine, lent, clockLine, accountLine, inTurn, called, recorded, longest, answered}
 use Rattle.demands.specs.Reached.{handed-opened}
-use Rattle.demands.specs.CallLists.{Call, offer, move, handed, withStart, linesBy, Accepted, jobsBy, History, opening, note, run}
+use Rattle.demands.specs.CallLists.{Call, offer, move, withStart, linesBy, Accepted, jobsBy, History, opening, note, run}
 use Rattle.demands.specs.BegunJobs.{chunkOf}
 use Rattle.demands.specs.Invariant.{run-append}
 use Rattle.printed.specs.Model.{answers}

@@ -1,7 +1,7 @@
 -- The farm of a day: not opened, or reached by a granted opening and calls. Every line keeps it so, and a call on it need not ask question 11.
-use mathlib.Core.Path.{_≡_, refl, sym, ap, subst, _∙_}
+use mathlib.Core.Path.{_≡_, refl, sym, subst, _∙_}
 use mathlib.Core.List.{List, [], _∷_}
-use mathlib.Core.Bool.{Bool, true, false, cond, _&&_, false≢true}
+use mathlib.Core.Bool.{Bool, true, false, cond, false≢true}
 use Prim.Native.Nat.{ℕ}
 use lib.Dec.{leb, eqb}
 use lib.ListN.{length, getD, replicate, length-replicate}
@@ -10,7 +10,7 @@ use Rattle.walk.specs.declared.Chunk.{Chunk}
 use Rattle.planner.specs.declared.Farm.{Farm}
 use Rattle.planner.specs.Model.{Sized, between, costsWithin}
 use Rattle.planner.specs.Passes.{passesOf}
-use Rattle.planner.specs.Calls.{unopened, openedWith, showsWithin, openSaid, openFarm, offerFarm}
+use Rattle.planner.specs.Calls.{unopened, showsWithin, openSaid, openFarm, offerFarm}
 use Rattle.planner.specs.Clock.{moveFarm}
 use Rattle.demands.specs.CallLists.{Call, offer, move, handed}
 use Rattle.demands.specs.Reached.{Reached, reached-opening, reached-call, handed-opened, reached-passes, reached-sized}

@@ -1,8 +1,8 @@
 -- `planner::Farm::moved` meets its contract: the jobs kept so far stand in front of the old ones.
-use mathlib.Core.Path.{_≡_, refl, ap, sym, subst, _∙_}
+use mathlib.Core.Path.{_≡_, refl, ap, subst, _∙_}
 use mathlib.Core.List.{List}
 use mathlib.Core.Logic.{⊎-elim}
-use Prim.Native.Nat.{ℕ, _-_, _≤_, _<_}
+use Prim.Native.Nat.{_-_, _≤_, _<_}
 use native.Mathlib.Omega.{arith}
 use lib.ListN.{length, getD, take, drop, set}
 use Rattle.lists.specs.Laws.{front-none}
@@ -13,7 +13,6 @@ use Rattle.timetable.specs.BeginSteps.{Kept, kept-more, kept-all, keep-next, ke
 use Rattle.planner.specs.declared.Farm.{Farm}
 use Rattle.planner.specs.ClockSteps.{behind-same, jobsAs, waitingAs, moved-is, waiting-few, begins-few, begins-places, begins-raises}
 use Rattle.planner.proofs.Sizes.{farm-sized}
-use borrow.Author.Needs.{needs}
 use Rattle.planner.proofs.Farm.moved.Statement.{statement}
 use Rattle.planner.proofs.Farm.moved.Tie as tie
 

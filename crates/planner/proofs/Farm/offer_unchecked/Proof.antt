@@ -1,8 +1,7 @@
 -- `planner::Farm::offer_unchecked` meets its contract: a question before the walk, or the walk.
-use mathlib.Core.Path.{_≡_, refl, sym, ap, subst, _∙_}
+use mathlib.Core.Path.{_≡_, sym, ap, subst, _∙_}
 use native.Mathlib.Omega.{arith}
 use Rattle.walk.specs.declared.Job.{Job}
-use Rattle.planner.specs.declared.offers.Asked.{Asked}
 use Rattle.planner.specs.Calls.{offerAsked}
 use Rattle.planner.specs.CallsSteps.{Offered}
 use Rattle.planner.specs.OfferSteps.{askedOf, Planned, offer-granted, offer-offered, decides-no, decides-planned}

@@ -1,6 +1,6 @@
 -- `clock::moving` meets its contract: question 11, and then what the farm that passes decides.
 use mathlib.Core.Path.{_≡_, refl, sym, _∙_}
-use mathlib.Core.Bool.{true, false}
+use mathlib.Core.Bool.{true}
 use borrow.Author.Tests.{not-true, not-false}
 use Rattle.planner.specs.Passes.{passesOf}
 use Rattle.planner.specs.ClockSteps.{Begins, move-unsound, move-stops, move-stays, move-goes, due-front, begins-few, begins-places}
