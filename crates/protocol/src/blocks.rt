@@ -48,7 +48,7 @@ pub fn start() -> Session
 
 // Answers the lines of a block from place `from` on, at the front of `out`. It stops at the block's end, where the rest of an
 // unfinished line is kept, or where `out` may not hold the next answer. The farm was reached by an opening and calls, so question 11 is not asked
-// again; it is changed where it stands, and a line that changes no job copies none. A clock move is lent `rows`, in which nothing is kept.
+// again. It is changed where it stands: a function that took it and handed it back would copy it. A clock move is lent `rows`, in which nothing is kept.
 pub fn answer_block(
     session: Session,
     block: &[u8],
