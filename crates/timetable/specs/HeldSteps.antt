@@ -9,7 +9,7 @@ use Rattle.shares.specs.Model.{sendEnd, chunkFinish, finish}
 use Rattle.booking.specs.Best.{chosen, units}
 use Rattle.walk.specs.declared.Job.{Job}
 use Rattle.walk.specs.declared.Chunk.{Chunk}
-use Rattle.walk.specs.Model.{greatest, chunkAt, chunksFrom, Span, placed, spansFrom, spansOf}
+use Rattle.walk.specs.Model.{greatest, ownCosts, chunkAt, chunksFrom, Span, placed, spansFrom, spansOf}
 use Rattle.walk.specs.Chunks.{Sends, linesFrom, latestFrom, lines-next, ends-next}
 use Rattle.timetable.specs.Model.{raised}
 
@@ -50,7 +50,7 @@ raise-most c hs j s f t k (n ∷ ks) (a ∷ xs) e =
 
 pub job-most : (c : Costs) (hs : List ℕ) (j : Job) (k : ℕ) → Sends c j → getD (raised hs (spansOf c j)) k 0 ≤ getD hs k 0 + 64_000_000_000_000
 job-most c hs j k x =
-    omega (arith, x .few, x .nodes, raise-most c hs (j .number) (j .show) (j .booking .start) (j .booking .start) k (chosen (j .booking)) (units (j .booking)) (x .ends))
+    omega (arith, x .few, x .nodes, raise-most (ownCosts c j) hs (j .number) (j .show) (j .booking .start) (j .booking .start) k (chosen (j .booking)) (units (j .booking)) (x .ends))
 
 -- where the loop over a job's chunks stands at chunk i, whose send begins at t: the chunks left raise the cells to what all of them make of the
 -- first ones, and what has been added is bounded

@@ -12,7 +12,7 @@ use Rattle.keys.specs.declared.Key.{Key}
 use Rattle.keys.specs.Model.{noKey}
 use Rattle.walk.specs.declared.Job.{Job}
 use Rattle.walk.specs.declared.Chunk.{Chunk}
-use Rattle.walk.specs.Model.{noJob, chunkAt, chunksFrom, linesOf, inOrder}
+use Rattle.walk.specs.Model.{noJob, ownCosts, chunkAt, chunksFrom, linesOf, inOrder}
 use Rattle.walk.specs.Chunks.{Sends, linesFrom, lines-none, lines-next}
 use Rattle.booking.specs.Best.{chosen, units}
 use Rattle.timetable.specs.Model.{linesOfAll, rowOf}
@@ -63,7 +63,7 @@ lines-length c n s t (k ∷ ks) [] e = absurd (omega arith)
 lines-length c n s t (k ∷ ks) (a ∷ xs) e = ap suc (lines-length c n s (sendEnd c t a) ks xs (omega arith))
 
 pub job-lines : (c : Costs) (j : Job) → Sends c j → length (linesOf c j) ≡ j .booking .count
-job-lines c j s = lines-length c (j .number) (j .show) (j .booking .start) (chosen (j .booking)) (units (j .booking)) (s .nodes ∙ sym (s .shares)) ∙ s .shares
+job-lines c j s = lines-length (ownCosts c j) (j .number) (j .show) (j .booking .start) (chosen (j .booking)) (units (j .booking)) (s .nodes ∙ sym (s .shares)) ∙ s .shares
 
 -- So are those of several jobs.
 pub all-lines : (c : Costs) (js : List Job) → All (Sends c) js → length (linesOfAll c js) ≡ chunks js

@@ -87,6 +87,7 @@ pub fn raise(costs: Costs, job: Job, held: &mut [u64; 32])
     while i < count {
         let chunk = chunk_on(
             costs,
+            job.compute,
             job.number,
             job.show,
             booking.nodes[i],

@@ -74,6 +74,7 @@ fn write_row_job(rows: &mut [[u64; 7]], at: usize, costs: Costs, job: Job)
     while i < count {
         let c = chunk_on(
             costs,
+            job.compute,
             job.number,
             job.show,
             booking.nodes[i],

@@ -11,10 +11,10 @@ use Rattle.walk.proofs.Job as job
 use Rattle.walk.proofs.Busy as busy
 
 pub nodes-length : {vs : List Val} (j : Job) → Is (row job.the-type) j vs → length (j .booking .nodes) ≡ 64
-nodes-length j p = sym (length-map (j .booking .nodes) _) ∙ p .1 .1 .1 .1 .1 .1 .0 .1 .1 .1 .1 .0 .1 .0 .1
+nodes-length j p = sym (length-map (j .booking .nodes) _) ∙ p .1 .1 .1 .1 .1 .1 .1 .0 .1 .1 .1 .1 .0 .1 .0 .1
 
 pub shares-length : {vs : List Val} (j : Job) → Is (row job.the-type) j vs → length (j .booking .shares) ≡ 64
-shares-length j p = sym (length-map (j .booking .shares) _) ∙ p .1 .1 .1 .1 .1 .1 .0 .1 .1 .1 .1 .1 .0 .1 .0 .1
+shares-length j p = sym (length-map (j .booking .shares) _) ∙ p .1 .1 .1 .1 .1 .1 .1 .0 .1 .1 .1 .1 .1 .0 .1 .0 .1
 
 pub free-length : {vs : List Val} (b : Busy) → Is (row busy.the-type) b vs → length (b .free) ≡ 64
 free-length b p = sym (length-map (b .free) _) ∙ p .1 .1 .1 .0 .1 .0 .1

@@ -20,7 +20,7 @@ use Rattle.booking.specs.Best.{freeAt, chosen, units}
 use Rattle.walk.specs.declared.Job.{Job}
 use Rattle.walk.specs.declared.Busy.{Busy}
 use Rattle.walk.specs.declared.Chunk.{Chunk}
-use Rattle.walk.specs.Model.{Span, chunksFrom, linesOf, placed, spansOf, Between, Apart, after, afters, fitAll}
+use Rattle.walk.specs.Model.{ownCosts, Span, chunksFrom, linesOf, finishOf, placed, spansOf, Between, Apart, after, afters, fitAll}
 
 -- ---- Spans in a row
 
@@ -156,7 +156,7 @@ chunks-proper c m n j s f t (i ∷ ks) (a ∷ xs) h k p =
 pub job-proper : (c : Costs) (n : ℕ) (j : Job) → 1 ≤ c .send → All (λ (k : ℕ). Between 1 k n) (chosen (j .booking)) → Positive (units (j .booking)) → All (Proper n) (spansOf c j)
 job-proper c n j m k p =
     all-image (Proper n) (λ (x : Chunk). record { from = j .booking .start; chunk = x }) (linesOf c j)
-    (chunks-proper c m n (j .number) (j .show) (j .booking .start) (j .booking .start) (chosen (j .booking)) (units (j .booking)) (omega arith) k p)
+    (chunks-proper (ownCosts c j) m n (j .number) (j .show) (j .booking .start) (j .booking .start) (chosen (j .booking)) (units (j .booking)) (omega arith) k p)
 
 -- The finish of each chunk is at most the finish of them all.
 pub chunks-finish : (c : Costs) (j s t : ℕ) (ks xs : List ℕ) → All (λ (x : Chunk). x .finish ≤ finish c t xs) (chunksFrom c j s t ks xs)
@@ -167,10 +167,10 @@ chunks-finish c j s t (i ∷ ks) [] = tt
 chunks-finish c j s t (i ∷ ks) (a ∷ xs) = (omega arith, all-map (λ x h. omega arith) (chunksFrom c j s (sendEnd c t a) ks xs) (chunks-finish c j s (sendEnd c t a) ks xs))
 
 -- No span of a job ends after the job's finish.
-pub job-finish : (c : Costs) (j : Job) → All (λ (x : Span). x .chunk .finish ≤ finish c (j .booking .start) (units (j .booking))) (spansOf c j)
+pub job-finish : (c : Costs) (j : Job) → All (λ (x : Span). x .chunk .finish ≤ finishOf c j) (spansOf c j)
 job-finish c j =
-    all-image (λ (x : Span). x .chunk .finish ≤ finish c (j .booking .start) (units (j .booking))) (λ (x : Chunk). record { from = j .booking .start; chunk = x }) (linesOf c j)
-    (chunks-finish c (j .number) (j .show) (j .booking .start) (chosen (j .booking)) (units (j .booking)))
+    all-image (λ (x : Span). x .chunk .finish ≤ finishOf c j) (λ (x : Chunk). record { from = j .booking .start; chunk = x }) (linesOf c j)
+    (chunks-finish (ownCosts c j) (j .number) (j .show) (j .booking .start) (chosen (j .booking)) (units (j .booking)))
 
 placed-chunks : (f : ℕ) (xs : List Chunk) → map (λ (x : Span). x .chunk) (placed f xs) ≡ xs
 placed-chunks f [] = refl

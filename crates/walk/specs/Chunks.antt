@@ -12,7 +12,7 @@ use Rattle.shares.specs.Model.{finish}
 use Rattle.booking.specs.Best.{chosen, units}
 use Rattle.walk.specs.declared.Job.{Job}
 use Rattle.walk.specs.declared.Chunk.{Chunk}
-use Rattle.walk.specs.Model.{greatest, chunkAt, chunksFrom}
+use Rattle.walk.specs.Model.{greatest, ownCosts, chunkAt, chunksFrom, finishOf}
 
 -- a job whose chunks can be worked out: a share for each node, nodes that there are, and a finish within the time range, so that no sum on
 -- the way to it wraps
@@ -21,15 +21,15 @@ pub record Sends (c : Costs) (j : Job) : Type 0 where
   pub nodes : length (chosen (j .booking)) ≡ j .booking .count
   pub shares : length (units (j .booking)) ≡ j .booking .count
   pub known : All (λ (k : ℕ). (1 ≤ k) × (k ≤ 64)) (chosen (j .booking))
-  pub ends : finish c (j .booking .start) (units (j .booking)) ≤ greatest
+  pub ends : finishOf c j ≤ greatest
 
 -- the lines of a job from chunk i on, its send beginning at t
 abbrev pub linesFrom : Costs → Job → ℕ → ℕ → List Chunk
-linesFrom c j i t = chunksFrom c (j .number) (j .show) t (drop i (chosen (j .booking))) (drop i (units (j .booking)))
+linesFrom c j i t = chunksFrom (ownCosts c j) (j .number) (j .show) t (drop i (chosen (j .booking))) (drop i (units (j .booking)))
 
 -- their latest finish
 abbrev pub latestFrom : Costs → Job → ℕ → ℕ → ℕ
-latestFrom c j i t = finish c t (drop i (units (j .booking)))
+latestFrom c j i t = finish (ownCosts c j) t (drop i (units (j .booking)))
 
 module _ (c : Costs) (j : Job) (s : Sends c j) (i t : ℕ) where
   -- None is left at the end.

@@ -7,7 +7,7 @@ use mathlib.Core.Bool.{Bool, true, _&&_}
 use lib.Dec.{leb}
 use lib.ListN.{length, getD, set}
 use Rattle.shares.specs.declared.Costs.{Costs}
-use Rattle.shares.specs.Model.{sendEnd, chunkFinish}
+use Rattle.shares.specs.Model.{sendEnd, chunkFinish, finish}
 use Rattle.keys.specs.declared.Key.{Key}
 use Rattle.keys.specs.Model.{sortKeys}
 use Rattle.booking.specs.declared.Request.{Request}
@@ -29,11 +29,19 @@ greatest = 1_000_000_000_000
 
 -- the job that the array of waiting jobs is filled with
 abbrev pub emptyJob : Job
-emptyJob = record { number = 0; show = 0; size = 0; deadline = 0; booking = bookingOf 0 [] [] }
+emptyJob = record { number = 0; show = 0; size = 0; compute = 0; deadline = 0; booking = bookingOf 0 [] [] }
 
 -- past a list's end
 abbrev pub noJob : Job
-noJob = record { number = 0; show = 0; size = 0; deadline = 0; booking = record { start = 0; count = 0; nodes = []; shares = [] } }
+noJob = record { number = 0; show = 0; size = 0; compute = 0; deadline = 0; booking = record { start = 0; count = 0; nodes = []; shares = [] } }
+
+-- the farm's costs with another compute cost
+abbrev pub withCompute : Costs → ℕ → Costs
+withCompute c p = record { send = c .send; compute = p; linksetup = c .linksetup; nodesetup = c .nodesetup }
+
+-- a job's own costs: the farm's, with the compute cost that the job keeps from its acceptance on
+abbrev pub ownCosts : Costs → Job → Costs
+ownCosts c j = withCompute c (j .compute)
 
 -- the chunk of `a` units on node k, for job j of show s, its send beginning at t
 abbrev pub chunkOn : Costs → ℕ → ℕ → ℕ → ℕ → ℕ → Chunk
@@ -41,7 +49,7 @@ chunkOn c j s t k a = record { job = j; show = s; node = k; units = a; start = t
 
 -- chunk i of a job, its send beginning at t
 abbrev pub chunkAt : Costs → Job → ℕ → ℕ → Chunk
-chunkAt c j i t = chunkOn c (j .number) (j .show) t (getD (j .booking .nodes) i 0) (getD (j .booking .shares) i 0)
+chunkAt c j i t = chunkOn (ownCosts c j) (j .number) (j .show) t (getD (j .booking .nodes) i 0) (getD (j .booking .shares) i 0)
 
 -- the chunks of shares xs on nodes ks, the first send beginning at t
 unfoldable pub chunksFrom : Costs → ℕ → ℕ → ℕ → List ℕ → List ℕ → List Chunk
@@ -52,7 +60,11 @@ chunksFrom c j s t (k ∷ ks) (a ∷ xs) = chunkOn c j s t k a ∷ chunksFrom c 
 
 -- the lines of a job's booking, in chunk order
 abbrev pub linesOf : Costs → Job → List Chunk
-linesOf c j = chunksFrom c (j .number) (j .show) (j .booking .start) (chosen (j .booking)) (units (j .booking))
+linesOf c j = chunksFrom (ownCosts c j) (j .number) (j .show) (j .booking .start) (chosen (j .booking)) (units (j .booking))
+
+-- a job's finish: the latest of its chunks'
+abbrev pub finishOf : Costs → Job → ℕ
+finishOf c j = finish (ownCosts c j) (j .booking .start) (units (j .booking))
 
 -- a chunk with the start of its job, where its node's span begins
 pub record Span : Type 0 where
@@ -144,13 +156,13 @@ byDeadline = byTime deadlineOf
 abbrev pub byStart : List Job → List Job
 byStart = byTime startOf
 
--- what is asked for a job: no start before the clock or the link's free time
+-- what is asked for a job: its own costs, and no start before the clock or the link's free time
 abbrev pub requestOf : Terms → Busy → Job → Request
-requestOf w b j = record { costs = w .costs; nodes = w .nodes; from = max (w .clock) (b .link); size = j .size; deadline = j .deadline }
+requestOf w b j = record { costs = ownCosts (w .costs) j; nodes = w .nodes; from = max (w .clock) (b .link); size = j .size; deadline = j .deadline }
 
 -- a job with a booking
 abbrev pub booked : Job → Booking → Job
-booked j b = record { number = j .number; show = j .show; size = j .size; deadline = j .deadline; booking = b }
+booked j b = record { number = j .number; show = j .show; size = j .size; compute = j .compute; deadline = j .deadline; booking = b }
 
 -- the next job of the walk, booked
 abbrev pub step : Terms → Busy → Job → Job

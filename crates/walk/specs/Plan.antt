@@ -14,7 +14,7 @@ use Rattle.booking.specs.Booked.{some-share}
 use Rattle.walk.specs.declared.Job.{Job}
 use Rattle.walk.specs.declared.Terms.{Terms}
 use Rattle.walk.specs.declared.Busy.{Busy}
-use Rattle.walk.specs.Model.{greatest, chunkOn, chunksFrom, linesOf, spansFrom, spansOf, spansOfAll, after, afters, requestOf, step, busyAfter, plan}
+use Rattle.walk.specs.Model.{greatest, ownCosts, chunkOn, chunksFrom, linesOf, spansFrom, spansOf, spansOfAll, after, afters, requestOf, step, busyAfter, plan}
 use Rattle.walk.specs.Chain.{Chain, chain-job, free-other, afters-length}
 use Rattle.walk.specs.Chunks.{Sends}
 use Rattle.walk.specs.WalkSteps.{best-sends}
@@ -40,7 +40,7 @@ job-chain : (w : Terms) (b : Busy) (j : Job) → Best (requestOf w b j) (b .free
 job-chain w b j x =
     let q = step w b j .booking in
     let h = x .best .choice in
-    chunks-chain (w .costs) (j .number) (j .show) (q .start) (q .start) b (chosen q) (units q) (omega (arith, h .after)) (all-map (λ k a. a .0) (chosen q) (h .known)) (h .idle) (h .differ)
+    chunks-chain (ownCosts (w .costs) j) (j .number) (j .show) (q .start) (q .start) b (chosen q) (units q) (omega (arith, h .after)) (all-map (λ k a. a .0) (chosen q) (h .known)) (h .idle) (h .differ)
 
 -- The spans of a plan in walk order, each job best behind those before it, are a chain from the walk's free times.
 pub plan-chain : (w : Terms) (b : Busy) (js : List Job) → BestAll w b js → Chain b (spansOfAll (w .costs) (plan w b js))
@@ -76,7 +76,7 @@ link-grows w b j m z x =
     let q = step w b j .booking in
     let h = x .best .choice in (
       omega (arith, h .after),
-      sends-pass (w .costs) (j .number) (j .show) (q .start) b (chosen q) (units q) m (h .paired) (some-share (units q) (omega (arith, h .all))) (h .each),
+      sends-pass (ownCosts (w .costs) j) (j .number) (j .show) (q .start) b (chosen q) (units q) m (h .paired) (some-share (units q) (omega (arith, h .all))) (h .each),
     )
 
 -- No job of a plan starts before the link's free time.
@@ -125,6 +125,6 @@ pub plan-sends : (w : Terms) (b : Busy) (js : List Job) → w .nodes ≤ 64 → 
 unfolding plan
 plan-sends w b [] n l r a = tt
 plan-sends w b (j ∷ js) n l r a = (
-  best-sends (requestOf w b j) (b .free) (step w b j) n (omega arith) (r .0) (a .0),
+  best-sends w b j n (omega arith) (r .0) (a .0),
   plan-sends w (busyAfter w b j) js n (afters-length b (linesOf (w .costs) (step w b j)) ∙ l) (r .1) (a .1),
 )

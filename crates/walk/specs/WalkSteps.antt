@@ -11,7 +11,6 @@ use lib.Dec.{leb}
 use lib.Seq.{take-suc-set, drop-cons}
 use Rattle.lists.specs.Laws.{All, all-map}
 use Rattle.shares.specs.Model.{answers}
-use Rattle.booking.specs.declared.Request.{Request}
 use Rattle.booking.specs.declared.Booking.{Booking}
 use Rattle.booking.specs.Model.{bookingOf, ranked}
 use Rattle.booking.specs.Best.{chosen, Best}
@@ -46,16 +45,18 @@ step-best w b j e h z n =
     ⊎-elim (λ x. absurd (n (ap (λ (y : Booking). y .count) (x .0)))) (λ x. x) (book-is (requestOf w b j) (b .free) e h z)
 
 -- Its chunks can be worked out.
-pub best-sends : (q : Request) (free : List ℕ) (j : Job) → q .nodes ≤ 64 → q .nodes ≤ length free → q .deadline ≤ greatest → Best q free (j .booking) → Sends (q .costs) j
+pub best-sends : (w : Terms) (b : Busy) (j : Job) → w .nodes ≤ 64 → w .nodes ≤ length (b .free) → j .deadline ≤ greatest → Best (requestOf w b j) (b .free) (step w b j .booking)
+    → Sends (w .costs) (step w b j)
 unfolding bookingOf
-best-sends q free j f h d x =
-    let k : j .booking .count ≡ length (chosen (j .booking)) = ap (λ (y : Booking). y .count) (x .blank) in
-    let m : length (chosen (j .booking)) ≤ q .nodes = no-more (q .nodes) free (ranked (q .nodes) free) (ranked-is (q .nodes) free h) (chosen (j .booking)) (x .best .choice .known) (x .best .choice .differ) in
+best-sends w b j f h d x =
+    let q : Booking = step w b j .booking in
+    let k : q .count ≡ length (chosen q) = ap (λ (y : Booking). y .count) (x .blank) in
+    let m : length (chosen q) ≤ w .nodes = no-more (w .nodes) (b .free) (ranked (w .nodes) (b .free)) (ranked-is (w .nodes) (b .free) h) (chosen q) (x .best .choice .known) (x .best .choice .differ) in
     record {
       few = omega arith;
       nodes = sym k;
       shares = sym (k ∙ x .best .choice .paired);
-      known = all-map (λ y a. (a .0, omega (arith, a .1))) (chosen (j .booking)) (x .best .choice .known);
+      known = all-map (λ y a. (a .0, omega (arith, a .1))) (chosen q) (x .best .choice .known);
       ends = omega (arith, x .best .choice .ends);
     }
 
