@@ -13,7 +13,7 @@ use Rattle.limits.specs.Model.{between, allAtMost, allAtLeast, Between}
 use Rattle.booking.specs.Best.{freeAt, chosen, units}
 use Rattle.walk.specs.declared.Job.{Job}
 use Rattle.walk.specs.declared.Busy.{Busy}
-use Rattle.walk.specs.Model.{greatest, spansOfAll, byStart, fitAll, Apart}
+use Rattle.walk.specs.Model.{greatest, ownCosts, finishOf, spansOfAll, byStart, fitAll, Apart}
 use Rattle.soundness.specs.declared.Figures.{Figures}
 
 -- ---- The test
@@ -40,6 +40,7 @@ jobWithin g j =
     between 1 (j .number) (g .used)
     && between 1 (j .show) (g .shows)
     && between 1 (j .size) 1_000_000
+    && between 1 (j .compute) 1_000_000
     && leb (j .deadline) greatest
     && leb (j .booking .start) greatest
     && between 1 (j .booking .count) 64
@@ -51,7 +52,7 @@ sharesKept c z d t xs = allAtLeast 1 xs && eqb (sum xs) z && leb (finish c t xs)
 
 -- a waiting job by itself: its start not before the clock, its shares, and its finish
 unfoldable pub jobKept : Figures → Job → Bool
-jobKept g j = leb (g .clock) (j .booking .start) && sharesKept (g .costs) (j .size) (j .deadline) (j .booking .start) (units (j .booking))
+jobKept g j = leb (g .clock) (j .booking .start) && sharesKept (ownCosts (g .costs) j) (j .size) (j .deadline) (j .booking .start) (units (j .booking))
 
 unfoldable pub jobPasses : Figures → Job → Bool
 jobPasses g j = jobWithin g j && jobKept g j
@@ -71,13 +72,14 @@ pub record JobWithin (g : Figures) (j : Job) : Type 0 where
   pub number : Between 1 (j .number) (g .used)
   pub show : Between 1 (j .show) (g .shows)
   pub size : Between 1 (j .size) 1_000_000
+  pub compute : Between 1 (j .compute) 1_000_000
   pub deadline : j .deadline ≤ greatest
   pub start : j .booking .start ≤ greatest
   pub count : Between 1 (j .booking .count) 64
   pub nodes : All (λ (k : ℕ). Between 1 k (g .nodes)) (chosen (j .booking))
 
 -- a waiting booking is sound: no start before the clock or the link's free time, no node taken before its free time, shares of at least 1
--- that add up to the size, every finish by its deadline. Sends and finishes are as the costs make them by construction: a booking stores its
+-- that add up to the size, every finish by its deadline. Sends and finishes are as the job's own costs make them by construction: a booking stores its
 -- start, nodes and shares, and the rest is worked out (`linesOf`).
 pub record JobSound (g : Figures) (b : Busy) (j : Job) : Type 0 where
   pub clock : g .clock ≤ j .booking .start
@@ -85,7 +87,7 @@ pub record JobSound (g : Figures) (b : Busy) (j : Job) : Type 0 where
   pub free : All (λ (k : ℕ). freeAt (b .free) k ≤ j .booking .start) (chosen (j .booking))
   pub each : Positive (units (j .booking))
   pub all : sum (units (j .booking)) ≡ j .size
-  pub ends : finish (g .costs) (j .booking .start) (units (j .booking)) ≤ j .deadline
+  pub ends : finishOf (g .costs) j ≤ j .deadline
 
 pub record Sound (g : Figures) (b : Busy) (js : List Job) : Type 0 where
   pub jobs : All (JobSound g b) js

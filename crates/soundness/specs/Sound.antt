@@ -7,14 +7,14 @@ use lib.ListN.{length}
 use lib.Seq.{length-take-le}
 use Rattle.lists.specs.Laws.{All, Pairs, Differ, all-map, all-both, pairs-map, perm-all, perm-pairs}
 use Rattle.shares.specs.declared.Costs.{Costs}
-use Rattle.shares.specs.Model.{finish, sum}
+use Rattle.shares.specs.Model.{sum}
 use Rattle.shares.specs.Lists.{Positive}
 use Rattle.limits.specs.Model.{CostsWithin}
 use Rattle.limits.specs.Says.{Says, says-le, says-eq, says-not-eq, says-as, says-then, says-both, says-between, says-at-most, says-at-least}
 use Rattle.booking.specs.Best.{freeAt, chosen, units}
 use Rattle.walk.specs.declared.Job.{Job}
 use Rattle.walk.specs.declared.Busy.{Busy}
-use Rattle.walk.specs.Model.{greatest, spansOf, spansOfAll, byStart, fitAll, Apart, JobSized}
+use Rattle.walk.specs.Model.{greatest, ownCosts, finishOf, spansOf, spansOfAll, byStart, fitAll, Apart, JobSized}
 use Rattle.walk.specs.Chain.{Fits, Proper, fit-all-chain, chain-follows, follows-apart, job-proper}
 use Rattle.walk.specs.Order.{by-start-perm, by-start-grows}
 use Rattle.soundness.specs.declared.Figures.{Figures}
@@ -47,16 +47,18 @@ unfolding jobWithin
 says-job-within g j =
     says-as
     (λ h. record {
-      number = h .0 .0 .0 .0 .0 .0;
-      show = h .0 .0 .0 .0 .0 .1;
-      size = h .0 .0 .0 .0 .1;
+      number = h .0 .0 .0 .0 .0 .0 .0;
+      show = h .0 .0 .0 .0 .0 .0 .1;
+      size = h .0 .0 .0 .0 .0 .1;
+      compute = h .0 .0 .0 .0 .1;
       deadline = h .0 .0 .0 .1;
       start = h .0 .0 .1;
       count = h .0 .1;
       nodes = all-both (λ k a b. (a, b)) (chosen (j .booking)) (h .1 .0) (h .1 .1);
     })
     (λ h.
-    ((((((h .number, h .show), h .size), h .deadline), h .start), h .count), (all-map (λ k a. a .0) (chosen (j .booking)) (h .nodes), all-map (λ k a. a .1) (chosen (j .booking)) (h .nodes))))
+    (((((((h .number, h .show), h .size), h .compute), h .deadline), h .start), h .count), (all-map (λ k a. a .0) (chosen (j .booking)) (h .nodes), all-map (λ k a. a .1) (chosen (j .booking)) (h .nodes))))
+    (says-both
     (says-both
     (says-both
     (says-both
@@ -64,6 +66,7 @@ says-job-within g j =
     (says-both
     (says-both (says-between 1 (j .number) (g .used)) (says-between 1 (j .show) (g .shows)))
     (says-between 1 (j .size) 1_000_000))
+    (says-between 1 (j .compute) 1_000_000))
     (says-le (j .deadline) greatest))
     (says-le (j .booking .start) greatest))
     (says-between 1 (j .booking .count) 64))
@@ -74,7 +77,7 @@ pub record JobKept (g : Figures) (j : Job) : Type 0 where
   pub clock : g .clock ≤ j .booking .start
   pub each : Positive (units (j .booking))
   pub all : sum (units (j .booking)) ≡ j .size
-  pub ends : finish (g .costs) (j .booking .start) (units (j .booking)) ≤ j .deadline
+  pub ends : finishOf (g .costs) j ≤ j .deadline
 
 -- The test of a job by itself says that it keeps the clock, its size and its deadline.
 pub says-job-kept : (g : Figures) (j : Job) → Says (jobKept g j) (JobKept g j)
@@ -82,7 +85,7 @@ unfolding jobKept sharesKept
 says-job-kept g j =
     says-as (λ h. record { clock = h .0; each = h .1 .0 .0; all = h .1 .0 .1; ends = h .1 .1 }) (λ h. (h .clock, ((h .each, h .all), h .ends)))
     (says-both (says-le (g .clock) (j .booking .start))
-    (says-both (says-both (says-at-least 1 (units (j .booking))) (says-eq (sum (units (j .booking))) (j .size))) (says-le (finish (g .costs) (j .booking .start) (units (j .booking))) (j .deadline))))
+    (says-both (says-both (says-at-least 1 (units (j .booking))) (says-eq (sum (units (j .booking))) (j .size))) (says-le (finishOf (g .costs) j) (j .deadline))))
 
 -- The test of the jobs says both of each.
 pub says-jobs : (g : Figures) (js : List Job) → Says (jobsPass g js) (All (λ (j : Job). JobWithin g j × JobKept g j) js)
@@ -109,12 +112,12 @@ job-paired g j s w =
 pub fits-behind : (b : Busy) (c : Costs) (j : Job) → Paired j → All (Fits b) (spansOf c j) → Behind b j
 fits-behind b c j p h =
     let s = j .booking .start in
-    (spans-first c (j .number) (j .show) s b s (chosen (j .booking)) (units (j .booking)) (p .0) (p .1) h, spans-free c (j .number) (j .show) s b s (chosen (j .booking)) (units (j .booking)) (p .0) h)
+    (spans-first (ownCosts c j) (j .number) (j .show) s b s (chosen (j .booking)) (units (j .booking)) (p .0) (p .1) h, spans-free (ownCosts c j) (j .number) (j .show) s b s (chosen (j .booking)) (units (j .booking)) (p .0) h)
 
 behind-fits : (b : Busy) (c : Costs) (j : Job) → Behind b j → All (Fits b) (spansOf c j)
 behind-fits b c j h =
     let s = j .booking .start in
-    spans-fit c (j .number) (j .show) s b s (chosen (j .booking)) (units (j .booking)) (h .0) (h .1)
+    spans-fit (ownCosts c j) (j .number) (j .show) s b s (chosen (j .booking)) (units (j .booking)) (h .0) (h .1)
 
 -- The sweep in order of start passes exactly if each job is behind the free times and all spans are apart.
 pub says-sweep : (c : Costs) (b : Busy) (js : List Job) → length (b .free) ≡ 64 → All (λ (j : Job). Paired j × All (Proper 64) (spansOf c j)) js

@@ -20,7 +20,7 @@ use Rattle.booking.specs.Best.{freeAt, chosen, units}
 use Rattle.walk.specs.declared.Job.{Job}
 use Rattle.walk.specs.declared.Busy.{Busy}
 use Rattle.walk.specs.declared.Chunk.{Chunk}
-use Rattle.walk.specs.Model.{greatest, noJob, chunkAt, Span, placed, spansOf, spansOfAll, after, byStart, inOrder, fitAll}
+use Rattle.walk.specs.Model.{greatest, noJob, ownCosts, finishOf, chunkAt, Span, placed, spansOf, spansOfAll, after, byStart, inOrder, fitAll}
 use Rattle.walk.specs.Chunks.{Sends, linesFrom, lines-next, lines-none}
 use Rattle.soundness.specs.declared.Figures.{Figures}
 use Rattle.soundness.specs.declared.Fit.{Fit}
@@ -32,7 +32,7 @@ use Rattle.soundness.specs.Sound.{Usable, says-job-within, says-jobs}
 
 -- a job whose sends and finishes up to the first that is late do not wrap
 pub record NoOverflow (c : Costs) (j : Job) : Type 0 where
-  pub costs : CostsWithin c
+  pub costs : CostsWithin (ownCosts c j)
   pub start : j .booking .start ≤ greatest
   pub deadline : j .deadline ≤ greatest
   pub count : j .booking .count ≤ 64
@@ -41,7 +41,7 @@ pub record NoOverflow (c : Costs) (j : Job) : Type 0 where
 pub record Bounded (c : Costs) (j : Job) : Type 0 where
   pub count : j .booking .count ≤ 64
   pub nodes : All (λ (k : ℕ). (1 ≤ k) × (k ≤ 64)) (chosen (j .booking))
-  pub ends : finish c (j .booking .start) (units (j .booking)) ≤ greatest
+  pub ends : finishOf c j ≤ greatest
 
 -- what a survey of the first n jobs comes to
 pub record Surveys (g : Figures) (js : List Job) (n : ℕ) (r : Survey) : Type 0 where
@@ -138,11 +138,11 @@ module _ (c : Costs) (z d s t : ℕ) (us : List ℕ) (i n : ℕ) (h : i < n) (k 
 -- The same of a job, with the chunk that the code makes.
 module _ (c : Costs) (j : Job) (s t i : ℕ) (h : i < j .booking .count) (k : j .booking .count ≤ length (j .booking .shares)) (x : Chunk) (e : x ≡ chunkAt c j i t) where
   pub shares-step : (a : ℕ) → a ≡ getD (j .booking .shares) i 0 → 1 ≤ a → x .finish ≤ j .deadline
-      → keptBehind c (j .size) (j .deadline) s t (slice i (j .booking .count) (j .booking .shares)) ≡ keptBehind c (j .size) (j .deadline) (s + a) (x .sent) (slice (i + 1) (j .booking .count) (j .booking .shares))
-  shares-step a q l m = rw (e, q) (shares-more c (j .size) (j .deadline) s t (j .booking .shares) i (j .booking .count) h k (rw q at l) (rw e at m))
+      → keptBehind (ownCosts c j) (j .size) (j .deadline) s t (slice i (j .booking .count) (j .booking .shares)) ≡ keptBehind (ownCosts c j) (j .size) (j .deadline) (s + a) (x .sent) (slice (i + 1) (j .booking .count) (j .booking .shares))
+  shares-step a q l m = rw (e, q) (shares-more (ownCosts c j) (j .size) (j .deadline) s t (j .booking .shares) i (j .booking .count) h k (rw q at l) (rw e at m))
 
-  pub shares-over : j .deadline < x .finish → keptBehind c (j .size) (j .deadline) s t (slice i (j .booking .count) (j .booking .shares)) ≡ false
-  shares-over m = shares-late c (j .size) (j .deadline) s t (j .booking .shares) i (j .booking .count) h k (rw e at m)
+  pub shares-over : j .deadline < x .finish → keptBehind (ownCosts c j) (j .size) (j .deadline) s t (slice i (j .booking .count) (j .booking .shares)) ≡ false
+  shares-over m = shares-late (ownCosts c j) (j .size) (j .deadline) s t (j .booking .shares) i (j .booking .count) h k (rw e at m)
 
   -- Its send ends by its finish.
   pub sent-finish : x .sent ≤ x .finish
@@ -158,7 +158,12 @@ shares-none c z d s t us n = let e : s + 0 ≡ s = omega arith in rw (slice-empt
 pub no-overflow-of : (g : Figures) (j : Job) → Usable g → jobWithin g j ≡ true → NoOverflow (g .costs) j
 no-overflow-of g j u e =
     let w = says-job-within g j .yields e in
-    record { costs = u .costs; start = w .start; deadline = w .deadline; count = w .count .1 }
+    record {
+      costs = record { send = u .costs .send; compute = w .compute; linksetup = u .costs .linksetup; nodesetup = u .costs .nodesetup };
+      start = w .start;
+      deadline = w .deadline;
+      count = w .count .1;
+    }
 
 -- Jobs that pass by themselves finish within the time range.
 pub all-bounded : (g : Figures) (js : List Job) → Usable g → jobsPass g js ≡ true → All (Bounded (g .costs)) js
@@ -189,7 +194,7 @@ unfolding jobPasses jobKept
 job-early g j h = rw (lt-leb (g .clock) (j .booking .start) h, and-false)
 
 pub job-whole : (g : Figures) (j : Job) → jobWithin g j ≡ true → g .clock ≤ j .booking .start
-    → jobPasses g j ≡ sharesKept (g .costs) (j .size) (j .deadline) (j .booking .start) (units (j .booking))
+    → jobPasses g j ≡ sharesKept (ownCosts (g .costs) j) (j .size) (j .deadline) (j .booking .start) (units (j .booking))
 unfolding jobPasses jobKept
 job-whole g j e h = rw (e, le-leb (g .clock) (j .booking .start) h)
 

@@ -12,7 +12,7 @@ use Rattle.booking.specs.Best.{freeAt, chosen, units}
 use Rattle.walk.specs.declared.Job.{Job}
 use Rattle.walk.specs.declared.Busy.{Busy}
 use Rattle.walk.specs.declared.Chunk.{Chunk}
-use Rattle.walk.specs.Model.{Span, chunksFrom, linesOf, spansOf, spansOfAll, Includes, Apart, placed}
+use Rattle.walk.specs.Model.{ownCosts, Span, chunksFrom, linesOf, spansOf, spansOfAll, Includes, Apart, placed}
 use Rattle.walk.specs.Chain.{Fits, Proper, Follows}
 
 -- ---- The spans of several jobs
@@ -116,7 +116,7 @@ node-after x y p h a e =
 job-follows : (c : Costs) (j : Job) → All (Proper 64) (spansOf c j) → Pairs Apart (spansOf c j) → Pairs Follows (spansOf c j)
 job-follows c j p a =
     let s = j .booking .start in
-    let tile = spans-tile c (j .number) (j .show) s s (chosen (j .booking)) (units (j .booking)) in
+    let tile = spans-tile (ownCosts c j) (j .number) (j .show) s s (chosen (j .booking)) (units (j .booking)) in
     let each : All (λ (x : Span). (x .from ≡ s) × Proper 64 x) (spansOf c j) = all-both (λ x e q. (e, q)) (spansOf c j) (placed-from s (linesOf c j)) p in
     pairs-both (λ x y h k b l. record { send = l; node = node-after x y (k .1) (omega arith) b }) (spansOf c j) each a tile
 
@@ -148,9 +148,9 @@ later-job : (c : Costs) (i j : Job) → i .booking .start ≤ j .booking .start 
 later-job c i j h p a =
     let s = i .booking .start in
     let t = j .booking .start in
-    let late = spans-late c (j .number) (j .show) t t (chosen (j .booking)) (units (j .booking)) in
-    let first = job-begins c (j .number) (j .show) t t (chosen (j .booking)) (units (j .booking)) in
-    let sends = ends-before c (i .number) (i .show) s t s (chosen (i .booking)) (units (i .booking)) (spansOf c j) h first late p a in
+    let late = spans-late (ownCosts c j) (j .number) (j .show) t t (chosen (j .booking)) (units (j .booking)) in
+    let first = job-begins (ownCosts c j) (j .number) (j .show) t t (chosen (j .booking)) (units (j .booking)) in
+    let sends = ends-before (ownCosts c i) (i .number) (i .show) s t s (chosen (i .booking)) (units (i .booking)) (spansOf c j) h first late p a in
     let xs : All (λ (x : Span). (x .from ≡ s) × All (Apart x) (spansOf c j)) (spansOf c i) = all-both (λ x e q. (e, q)) (spansOf c i) (placed-from s (linesOf c i)) a in
     let ys : All (λ (y : Span). (y .from ≡ t) × Proper 64 y) (spansOf c j) = all-both (λ y e q. (e, q)) (spansOf c j) (placed-from t (linesOf c j)) p in
     all-both (λ x k l. one x (k .0) ys (k .1) l) (spansOf c i) xs sends

@@ -6,7 +6,7 @@ ghost use Prim.Native.Nat.{_≤_};
 ghost use lib.ListN.{take};
 ghost use Rattle.lists.specs.Laws.{All};
 ghost use Rattle.booking.specs.Best.{units};
-ghost use Rattle.walk.specs.Model.{byStart, spansOfAll, inOrder, fitAll};
+ghost use Rattle.walk.specs.Model.{ownCosts, byStart, spansOfAll, inOrder, fitAll};
 ghost use Rattle.soundness.specs.Model.{noneOf, allDiffer, nodesKnown, sharesKept, jobWithin, jobPasses, waitingPass};
 ghost use Rattle.soundness.specs.Sound.{Usable};
 ghost use Rattle.soundness.specs.Steps.{NoOverflow, Bounded, Inside, Surveys, FitResult};
@@ -78,8 +78,9 @@ fn job_within(figures: Figures, job: Job) -> bool
         between(1, job.show, wide(figures.shows)),
     );
     let sized = and(named, between(1, wide32(job.size), 1_000_000));
+    let priced = and(sized, between(1, wide32(job.compute), 1_000_000));
     let timed = and(
-        and(sized, at_most(job.deadline, 1_000_000_000_000)),
+        and(priced, at_most(job.deadline, 1_000_000_000_000)),
         at_most(b.start, 1_000_000_000_000),
     );
     and(
@@ -91,7 +92,7 @@ fn job_within(figures: Figures, job: Job) -> bool
 // Whether the shares are at least 1 each and add up to the size, and each chunk finishes by the deadline.
 fn shares_kept(costs: Costs, job: Job) -> bool
     requires { ⌜ NoOverflow costs job ⌝ }
-    ensures { λ r. ⌜ r ≡ sharesKept costs (job .size) (job .deadline) (job .booking .start) (units (job .booking)) ⌝ }
+    ensures { λ r. ⌜ r ≡ sharesKept (ownCosts costs job) (job .size) (job .deadline) (job .booking .start) (units (job .booking)) ⌝ }
 {
     let b = job.booking;
     let mut total: u64 = 0;
@@ -102,7 +103,15 @@ fn shares_kept(costs: Costs, job: Job) -> bool
         if units < 1 {
             return false;
         }
-        let chunk = chunk_on(costs, job.number, job.show, b.nodes[i], b.shares[i], from);
+        let chunk = chunk_on(
+            costs,
+            job.compute,
+            job.number,
+            job.show,
+            b.nodes[i],
+            b.shares[i],
+            from,
+        );
         if job.deadline < chunk.finish {
             return false;
         }
@@ -194,7 +203,15 @@ fn job_fits(costs: Costs, busy: Busy, job: Job) -> Fit
     let mut from = b.start;
     let mut i = 0;
     while i < b.count {
-        let chunk = chunk_on(costs, job.number, job.show, b.nodes[i], b.shares[i], from);
+        let chunk = chunk_on(
+            costs,
+            job.compute,
+            job.number,
+            job.show,
+            b.nodes[i],
+            b.shares[i],
+            from,
+        );
         let place = chunk.node as usize - 1;
         if from < link {
             return Fit { fits: false, busy };

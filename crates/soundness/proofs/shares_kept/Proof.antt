@@ -8,7 +8,7 @@ use lib.Dec.{leb, eqb}
 use lib.ListN.{length, getD}
 use lib.Seq.{slice}
 use Rattle.booking.specs.Best.{units}
-use Rattle.walk.specs.Model.{greatest}
+use Rattle.walk.specs.Model.{greatest, ownCosts}
 use Rattle.walk.proofs.Sizes.{shares-length}
 use Rattle.soundness.specs.Model.{sharesKept}
 use Rattle.soundness.specs.Steps.{finish-small, keptBehind, kept-start, shares-step, shares-small, shares-over, sent-finish, shares-none}
@@ -19,7 +19,7 @@ use Rattle.soundness.proofs.shares_kept.Tie as tie
 abbrev Inv-loop : tie.InvT-loop
 Inv-loop costs job b total₀ from₀ i₀ total from i =
     (i ≤ b .count) × (total ≤ i * 4294967296) × (from ≤ greatest)
-    × (sharesKept costs (job .size) (job .deadline) (b .start) (units b) ≡ keptBehind costs (job .size) (job .deadline) total from (slice i (b .count) (b .shares)))
+    × (sharesKept (ownCosts costs job) (job .size) (job .deadline) (b .start) (units b) ≡ keptBehind (ownCosts costs job) (job .size) (job .deadline) total from (slice i (b .count) (b .shares)))
 
 abbrev μ-loop : tie.MeasureT-loop
 μ-loop costs job b total₀ from₀ i₀ total from i = b .count - i
@@ -27,7 +27,7 @@ abbrev μ-loop : tie.MeasureT-loop
 loop-holds : tie.Need-loop-holds Inv-loop μ-loop
 loop-holds c =
     let a = c .before .args in
-    (omega arith, omega arith, c .before .pre .start, kept-start (a .costs) (a .job .size) (a .job .deadline) (a .job .booking .start) (units (a .job .booking)))
+    (omega arith, omega arith, c .before .pre .start, kept-start (ownCosts (a .costs) (a .job)) (a .job .size) (a .job .deadline) (a .job .booking .start) (units (a .job .booking)))
 
 mul-wide32 : tie.Need-mul-wide32 Inv-loop μ-loop
 mul-wide32 c = search needs
@@ -44,7 +44,7 @@ returns c =
     let a = z .args in
     let l = c .before .before .before .before .loop in
     let us : a .job .booking .count ≤ length (a .job .booking .shares) = omega (arith, z .pre .count, shares-length (a .job) (z .good .1 .0)) in
-    sym (l .inv .3 ∙ shares-small (a .costs) (a .job .size) (a .job .deadline) (l .total) (l .from) (a .job .booking .shares) (l .i) (a .job .booking .count) (c .before .before .before .loop-test .taken) us (subst (λ (k : ℕ). k < 1) (c .before .wide32 .ensures .0) (c .if1 .taken)))
+    sym (l .inv .3 ∙ shares-small (ownCosts (a .costs) (a .job)) (a .job .size) (a .job .deadline) (l .total) (l .from) (a .job .booking .shares) (l .i) (a .job .booking .count) (c .before .before .before .loop-test .taken) us (subst (λ (k : ℕ). k < 1) (c .before .wide32 .ensures .0) (c .if1 .taken)))
 
 element-copy-out-chunk-on : tie.Need-element-copy-out-chunk-on Inv-loop μ-loop
 element-copy-out-chunk-on c =
@@ -64,7 +64,7 @@ chunk-on-requires c κs =
     let a = z .args in
     let l = c .before .before .before .before .before .before .loop in
     let w = c .before .before .before .wide32 .ensures in
-    finish-small (a .costs) (l .from) (getD (a .job .booking .shares) (l .i) 0) (z .pre .costs) (l .inv .2) (omega (arith, w .0, w .1))
+    finish-small (ownCosts (a .costs) (a .job)) (l .from) (getD (a .job .booking .shares) (l .i) 0) (z .pre .costs) (l .inv .2) (omega (arith, w .0, w .1))
 
 returns-2 : tie.Need-returns-2 Inv-loop μ-loop
 returns-2 c =
@@ -111,7 +111,7 @@ returns-3 c =
     let all : l .i ≡ a .job .booking .count = omega arith in
     let test : c .and .result ≡ eqb (l .total) (a .job .size) && leb (l .from) (a .job .deadline) =
     c .and .ensures ∙ ap (λ (k : ℕ). eqb (l .total) k && leb (l .from) (a .job .deadline)) (c .before .before .wide322 .ensures .0) in
-    test ∙ sym (l .inv .3 ∙ ap (λ (k : ℕ). keptBehind (a .costs) (a .job .size) (a .job .deadline) (l .total) (l .from) (slice k (a .job .booking .count) (a .job .booking .shares))) all ∙ shares-none (a .costs) (a .job .size) (a .job .deadline) (l .total) (l .from) (a .job .booking .shares) (a .job .booking .count))
+    test ∙ sym (l .inv .3 ∙ ap (λ (k : ℕ). keptBehind (ownCosts (a .costs) (a .job)) (a .job .size) (a .job .deadline) (l .total) (l .from) (slice k (a .job .booking .count) (a .job .booking .shares))) all ∙ shares-none (ownCosts (a .costs) (a .job)) (a .job .size) (a .job .deadline) (l .total) (l .from) (a .job .booking .shares) (a .job .booking .count))
 
 pub shares-kept-spec : {M : Type 1} → statement M
 shares-kept-spec =
