@@ -33,10 +33,10 @@ abbrev Held : Type 0
 Held = job.the-field .row .Denot
 
 abbrev HeldSized : Held → Type 0
-HeldSized y = (length (y .1 .1 .1 .1 .0 .1 .1 .0) ≡ 64) × (length (y .1 .1 .1 .1 .0 .1 .1 .1 .0) ≡ 64)
+HeldSized y = (length (y .1 .1 .1 .1 .1 .0 .1 .1 .0) ≡ 64) × (length (y .1 .1 .1 .1 .1 .0 .1 .1 .1 .0) ≡ 64)
 
 held-sized : (y : Held) (vs : List Val) → shadow (job.the-field .row .own y vs) → HeldSized y
-held-sized y vs p = (p .1 .1 .1 .1 .1 .1 .0 .1 .1 .1 .1 .0 .1 .0 .1, p .1 .1 .1 .1 .1 .1 .0 .1 .1 .1 .1 .1 .0 .1 .0 .1)
+held-sized y vs p = (p .1 .1 .1 .1 .1 .1 .1 .0 .1 .1 .1 .1 .0 .1 .0 .1, p .1 .1 .1 .1 .1 .1 .1 .0 .1 .1 .1 .1 .1 .0 .1 .0 .1)
 
 job-sized : (j : Job) → HeldSized (job.the-field .into j) → JobSized j
 job-sized j h = record { nodes = sym (length-map (j .booking .nodes) (u8-field .into)) ∙ h .0; shares = sym (length-map (j .booking .shares) (u32-field .into)) ∙ h .1 }

@@ -6,17 +6,18 @@ use mathlib.Core.Path.{_≡_}
 use lib.Dec.{leb, ltb, eqb}
 use lib.ListN.{length, getD, drop, replicate}
 use Rattle.shares.specs.declared.Costs.{Costs}
-use Rattle.shares.specs.Model.{finish}
 use Rattle.booking.specs.Model.{bookingOf}
-use Rattle.booking.specs.Best.{units}
 use Rattle.walk.specs.declared.Job.{Job}
 use Rattle.planner.specs.declared.Farm.{Farm}
+use Rattle.planner.specs.declared.ComputeCost.{ComputeCost}
+use Rattle.planner.specs.declared.ComputeCost.the-variants.{Absent, Given}
+use Rattle.planner.specs.declared.Offer.{Offer}
 use Rattle.planner.specs.declared.Reply.{Reply}
 use Rattle.planner.specs.declared.Question.{Question}
 use Rattle.planner.specs.declared.Answer.{Answer}
 use Rattle.planner.specs.declared.Question.the-variants as question
 use Rattle.planner.specs.declared.Answer.the-variants as answer
-use Rattle.planner.specs.Model.{greatest, between, allAtMost, costsWithin, emptyJob, waitingOf, termsOf, busyOf, byDeadline, plan, booksAll}
+use Rattle.planner.specs.Model.{greatest, between, allAtMost, costsWithin, emptyJob, finishOf, waitingOf, termsOf, busyOf, byDeadline, plan, booksAll}
 use Rattle.planner.specs.Passes.{passesOf}
 
 -- ---- Answers
@@ -132,20 +133,29 @@ accountSaid f s =
 
 -- ---- Offer
 
+-- the compute cost that is given, otherwise the farm's
+abbrev pub computeOr : ℕ → ComputeCost → ℕ
+computeOr farms Absent = farms
+computeOr farms (Given own) = own
+
+-- the compute cost that the job would have
+abbrev pub computeOf : Farm → Offer → ℕ
+computeOf f o = computeOr (f .costs .compute) (o .compute)
+
 -- the job that is offered, with the next number
-abbrev pub newJob : Farm → ℕ → ℕ → ℕ → Job
-newJob f s z d = record { number = f .used + 1; show = s; size = z; deadline = d; booking = bookingOf 0 [] [] }
+abbrev pub newJob : Farm → Offer → Job
+newJob f o = record { number = f .used + 1; show = o .show; size = o .size; compute = computeOf f o; deadline = o .deadline; booking = bookingOf 0 [] [] }
 
 -- what is walked: the waiting jobs and the new one, by deadline
-abbrev pub queueOf : Farm → ℕ → ℕ → ℕ → List Job
-queueOf f s z d = byDeadline (waitingOf f ++ newJob f s z d ∷ [])
+abbrev pub queueOf : Farm → Offer → List Job
+queueOf f o = byDeadline (waitingOf f ++ newJob f o ∷ [])
 
 -- the plan of the walk, and whether it books them all
-abbrev pub planned : Farm → ℕ → ℕ → ℕ → List Job
-planned f s z d = plan (termsOf f) (busyOf f) (queueOf f s z d)
+abbrev pub planned : Farm → Offer → List Job
+planned f o = plan (termsOf f) (busyOf f) (queueOf f o)
 
-abbrev pub accepts : Farm → ℕ → ℕ → ℕ → Bool
-accepts f s z d = booksAll (termsOf f) (busyOf f) (queueOf f s z d)
+abbrev pub accepts : Farm → Offer → Bool
+accepts f o = booksAll (termsOf f) (busyOf f) (queueOf f o)
 
 -- the farm with one job more, and these jobs
 abbrev pub nextFarm : Farm → List Job → Farm
@@ -175,27 +185,29 @@ ofNumber n (j ∷ js) = cond (eqb (j .number) n) j (ofNumber n js)
 
 -- job, start, finish and count of nodes
 abbrev pub yesOf : Costs → Job → Said
-yesOf c j = granted Yes (j .number ∷ j .booking .start ∷ finish c (j .booking .start) (units (j .booking)) ∷ j .booking .count ∷ [])
+yesOf c j = granted Yes (j .number ∷ j .booking .start ∷ finishOf c j ∷ j .booking .count ∷ [])
 
--- questions 11, 4, 5, 6 and 7 in that order: the number of the first answered no, or 0
-unfoldable pub offerAsked : Farm → ℕ → ℕ → ℕ → ℕ
-offerAsked f s z d =
+-- questions 11, 4, 5, 2, 6 and 7 in that order: the number of the first answered no, or 0
+unfoldable pub offerAsked : Farm → Offer → ℕ
+offerAsked f o =
     cond (passesOf f)
-    (cond (between 1 s (f .shows))
-    (cond (between 1 z 1_000_000)
-    (cond (ltb (f .clock) d && leb d greatest)
+    (cond (between 1 (o .show) (f .shows))
+    (cond (between 1 (o .size) 1_000_000)
+    (cond (between 1 (computeOf f o) 1_000_000)
+    (cond (ltb (f .clock) (o .deadline) && leb (o .deadline) greatest)
     (cond (ltb (f .waiting) 128 && ltb (f .used) greatest) 0 7)
     6)
+    2)
     5)
     4)
     11
 
 -- past those, question 8: does the walk book them all?
-unfoldable pub offerSaid : Farm → ℕ → ℕ → ℕ → Said
-offerSaid f s z d =
-    cond (eqb (offerAsked f s z d) 0)
-    (cond (accepts f s z d) (yesOf (f .costs) (ofNumber (f .used + 1) (planned f s z d))) (refused 8))
-    (refused (offerAsked f s z d))
+unfoldable pub offerSaid : Farm → Offer → Said
+offerSaid f o =
+    cond (eqb (offerAsked f o) 0)
+    (cond (accepts f o) (yesOf (f .costs) (ofNumber (f .used + 1) (planned f o))) (refused 8))
+    (refused (offerAsked f o))
 
-unfoldable pub offerFarm : Farm → ℕ → ℕ → ℕ → Farm
-offerFarm f s z d = cond (eqb (offerAsked f s z d) 0) (cond (accepts f s z d) (withPlan f (planned f s z d)) f) f
+unfoldable pub offerFarm : Farm → Offer → Farm
+offerFarm f o = cond (eqb (offerAsked f o) 0) (cond (accepts f o) (withPlan f (planned f o)) f) f

@@ -17,13 +17,14 @@ use Rattle.walk.specs.declared.Job.{Job}
 use Rattle.walk.specs.Order.{by-deadline-perm}
 use Rattle.walk.specs.WalkSteps.{Ready}
 use Rattle.planner.specs.declared.Farm.{Farm}
+use Rattle.planner.specs.declared.Offer.{Offer}
 use Rattle.planner.specs.declared.Reply.{Reply}
 use Rattle.planner.specs.declared.Question.{Question}
 use Rattle.planner.specs.declared.Answer.the-variants as answer
 use Rattle.planner.specs.Model.{greatest, between, costsWithin, waitingOf, termsOf, busyOf, byDeadline}
 use Rattle.planner.specs.Passes.{passesOf}
 use Rattle.planner.specs.PassesSteps.{passes-within, passes-jobs}
-use Rattle.planner.specs.Calls.{Account, said, granted, refused, numberOf, Replies, unopened, openedWith, showsWithin, openSaid, openFarm, heldBy, allowanceOf, accountSaid, offerAsked, offerSaid, offerFarm}
+use Rattle.planner.specs.Calls.{Account, said, granted, refused, numberOf, Replies, unopened, openedWith, showsWithin, openSaid, openFarm, heldBy, allowanceOf, accountSaid, computeOf, offerAsked, offerSaid, offerFarm}
 
 -- ---- Opening
 
@@ -87,36 +88,41 @@ account-told f s e k = rw (e, k)
 
 -- ---- Offers
 
-module _ (f : Farm) (s z d : ℕ) where
-  pub asked-farm : passesOf f ≡ false → offerAsked f s z d ≡ 11
+module _ (f : Farm) (o : Offer) where
+  pub asked-farm : passesOf f ≡ false → offerAsked f o ≡ 11
   unfolding offerAsked
   asked-farm a = rw a
 
-  pub asked-show : passesOf f ≡ true → between 1 s (f .shows) ≡ false → offerAsked f s z d ≡ 4
+  pub asked-show : passesOf f ≡ true → between 1 (o .show) (f .shows) ≡ false → offerAsked f o ≡ 4
   unfolding offerAsked
   asked-show a b = rw (a, b)
 
-  pub asked-size : passesOf f ≡ true → between 1 s (f .shows) ≡ true → between 1 z 1_000_000 ≡ false → offerAsked f s z d ≡ 5
-  unfolding offerAsked
-  asked-size a b c = rw (a, b, c)
+  module _ (a : passesOf f ≡ true) (b : between 1 (o .show) (f .shows) ≡ true) where
+    pub asked-size : between 1 (o .size) 1_000_000 ≡ false → offerAsked f o ≡ 5
+    unfolding offerAsked
+    asked-size c = rw (a, b, c)
 
-  pub asked-deadline : passesOf f ≡ true → between 1 s (f .shows) ≡ true → between 1 z 1_000_000 ≡ true → (ltb (f .clock) d && leb d greatest) ≡ false → offerAsked f s z d ≡ 6
-  unfolding offerAsked
-  asked-deadline a b c e = rw (a, b, c, e)
+    module _ (c : between 1 (o .size) 1_000_000 ≡ true) where
+      pub asked-compute : between 1 (computeOf f o) 1_000_000 ≡ false → offerAsked f o ≡ 2
+      unfolding offerAsked
+      asked-compute p = rw (a, b, c, p)
 
-  pub asked-queue : passesOf f ≡ true → between 1 s (f .shows) ≡ true → between 1 z 1_000_000 ≡ true → (ltb (f .clock) d && leb d greatest) ≡ true
-      → (ltb (f .waiting) 128 && ltb (f .used) greatest) ≡ false → offerAsked f s z d ≡ 7
-  unfolding offerAsked
-  asked-queue a b c e g = rw (a, b, c, e, g)
+      module _ (p : between 1 (computeOf f o) 1_000_000 ≡ true) where
+        pub asked-deadline : (ltb (f .clock) (o .deadline) && leb (o .deadline) greatest) ≡ false → offerAsked f o ≡ 6
+        unfolding offerAsked
+        asked-deadline e = rw (a, b, c, p, e)
 
-  pub asked-all : passesOf f ≡ true → between 1 s (f .shows) ≡ true → between 1 z 1_000_000 ≡ true → (ltb (f .clock) d && leb d greatest) ≡ true
-      → (ltb (f .waiting) 128 && ltb (f .used) greatest) ≡ true → offerAsked f s z d ≡ 0
-  unfolding offerAsked
-  asked-all a b c e g = rw (a, b, c, e, g)
+        pub asked-queue : (ltb (f .clock) (o .deadline) && leb (o .deadline) greatest) ≡ true → (ltb (f .waiting) 128 && ltb (f .used) greatest) ≡ false → offerAsked f o ≡ 7
+        unfolding offerAsked
+        asked-queue e g = rw (a, b, c, p, e, g)
+
+        pub asked-all : (ltb (f .clock) (o .deadline) && leb (o .deadline) greatest) ≡ true → (ltb (f .waiting) 128 && ltb (f .used) greatest) ≡ true → offerAsked f o ≡ 0
+        unfolding offerAsked
+        asked-all e g = rw (a, b, c, p, e, g)
 
   -- Refused at a question before the walk: the farm as it was.
-  pub offer-refused : (r : Reply) (q : Question) → r ≡ record { answer = answer.No q; farm = f } → offerAsked f s z d ≡ numberOf q → eqb (numberOf q) 0 ≡ false
-      → Replies r (offerSaid f s z d) (offerFarm f s z d)
+  pub offer-refused : (r : Reply) (q : Question) → r ≡ record { answer = answer.No q; farm = f } → offerAsked f o ≡ numberOf q → eqb (numberOf q) 0 ≡ false
+      → Replies r (offerSaid f o) (offerFarm f o)
   unfolding offerSaid offerFarm
   offer-refused r q e a n =
       record { says = ap (λ (x : Reply). said (x .answer)) e ∙ rw (a, n); hands = ap (λ (x : Reply). x .farm) e ∙ rw (a, n) }

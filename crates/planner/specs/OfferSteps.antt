@@ -20,6 +20,7 @@ use Rattle.walk.specs.Plan.{plan-length, plan-sends}
 use Rattle.walk.specs.WalkSteps.{Walked}
 use Rattle.walk.specs.BestWalk.{walk-best}
 use Rattle.planner.specs.declared.Farm.{Farm}
+use Rattle.planner.specs.declared.Offer.{Offer}
 use Rattle.planner.specs.declared.Question.{Question}
 use Rattle.planner.specs.declared.Question.the-variants as question
 use Rattle.planner.specs.declared.Answer.the-variants as answer
@@ -28,7 +29,7 @@ use Rattle.planner.specs.declared.offers.Asked.{Asked}
 use Rattle.planner.specs.declared.offers.Asked.the-variants as asked
 use Rattle.planner.specs.Model.{greatest, between, Between, noJob, waitingOf, termsOf, busyOf, busyAfter, byDeadline, plan, booksAll}
 use Rattle.planner.specs.Passes.{passesOf}
-use Rattle.planner.specs.Calls.{said, refused, numberOf, newJob, accepts, nextFarm, ofNumber, yesOf, offerAsked, offerSaid, offerFarm}
+use Rattle.planner.specs.Calls.{said, refused, numberOf, computeOf, newJob, accepts, nextFarm, ofNumber, yesOf, offerAsked, offerSaid, offerFarm}
 use Rattle.planner.specs.PassesSteps.{passes-within, passes-jobs}
 use Rattle.planner.specs.CallsSteps.{Offered, walk-ready, deadline-is, place-is}
 
@@ -38,38 +39,41 @@ askedOf asked.Yes = 0
 askedOf (asked.No q) = numberOf q
 
 -- what an offer's questions before the walk ask, all answered yes
-pub record OfferGranted (f : Farm) (s z d : ℕ) : Type 0 where
+pub record OfferGranted (f : Farm) (o : Offer) : Type 0 where
   pub passes : passesOf f ≡ true
-  pub show : Between 1 s (f .shows)
-  pub size : Between 1 z 1_000_000
-  pub deadline : (f .clock < d) × (d ≤ greatest)
+  pub show : Between 1 (o .show) (f .shows)
+  pub size : Between 1 (o .size) 1_000_000
+  pub compute : Between 1 (computeOf f o) 1_000_000
+  pub deadline : (f .clock < o .deadline) × (o .deadline ≤ greatest)
   pub place : (f .waiting < 128) × (f .used < greatest)
 
-asked-yes : (a b c d e : Bool) → _≡_ {A = ℕ} (cond a (cond b (cond c (cond d (cond e 0 7) 6) 5) 4) 11) 0
-    → (a ≡ true) × (b ≡ true) × (c ≡ true) × (d ≡ true) × (e ≡ true)
-asked-yes true true true true true h = (refl, refl, refl, refl, refl)
-asked-yes true true true true false h = absurd (omega arith)
-asked-yes true true true false e h = absurd (omega arith)
-asked-yes true true false d e h = absurd (omega arith)
-asked-yes true false c d e h = absurd (omega arith)
-asked-yes false b c d e h = absurd (omega arith)
+asked-yes : (a b c p d e : Bool) → _≡_ {A = ℕ} (cond a (cond b (cond c (cond p (cond d (cond e 0 7) 6) 2) 5) 4) 11) 0
+    → (a ≡ true) × (b ≡ true) × (c ≡ true) × (p ≡ true) × (d ≡ true) × (e ≡ true)
+asked-yes true true true true true true h = (refl, refl, refl, refl, refl, refl)
+asked-yes true true true true true false h = absurd (omega arith)
+asked-yes true true true true false e h = absurd (omega arith)
+asked-yes true true true false d e h = absurd (omega arith)
+asked-yes true true false p d e h = absurd (omega arith)
+asked-yes true false c p d e h = absurd (omega arith)
+asked-yes false b c p d e h = absurd (omega arith)
 
 -- An offer that no question before the walk stops has each answered yes.
-pub offer-granted : (f : Farm) (s z d : ℕ) → offerAsked f s z d ≡ 0 → OfferGranted f s z d
+pub offer-granted : (f : Farm) (o : Offer) → offerAsked f o ≡ 0 → OfferGranted f o
 unfolding offerAsked
-offer-granted f s z d h =
-    let q = asked-yes (passesOf f) (between 1 s (f .shows)) (between 1 z 1_000_000) (ltb (f .clock) d && leb d greatest) (ltb (f .waiting) 128 && ltb (f .used) greatest) h in
+offer-granted f o h =
+    let q = asked-yes (passesOf f) (between 1 (o .show) (f .shows)) (between 1 (o .size) 1_000_000) (between 1 (computeOf f o) 1_000_000) (ltb (f .clock) (o .deadline) && leb (o .deadline) greatest) (ltb (f .waiting) 128 && ltb (f .used) greatest) h in
     record {
       passes = q .0;
-      show = between-is 1 s (f .shows) (q .1);
-      size = between-is 1 z 1_000_000 (q .2);
-      deadline = deadline-is (f .clock) d (q .3);
-      place = place-is (f .waiting) (f .used) (q .4);
+      show = between-is 1 (o .show) (f .shows) (q .1);
+      size = between-is 1 (o .size) 1_000_000 (q .2);
+      compute = between-is 1 (computeOf f o) 1_000_000 (q .3);
+      deadline = deadline-is (f .clock) (o .deadline) (q .4);
+      place = place-is (f .waiting) (f .used) (q .5);
     }
 
 -- The new job may be walked.
-pub offer-offered : (f : Farm) (s z d : ℕ) → OfferGranted f s z d → Offered f (newJob f s z d)
-offer-offered f s z d g = record { passes = g .passes; size = g .size .0; deadline = g .deadline .1; waiting = g .place .0 }
+pub offer-offered : (f : Farm) (o : Offer) → OfferGranted f o → Offered f (newJob f o)
+offer-offered f o g = record { passes = g .passes; size = g .size .0; deadline = g .deadline .1; waiting = g .place .0 }
 
 -- ---- The new job in the plan
 
@@ -146,11 +150,11 @@ pub record Planned (f : Farm) (j : Job) (r : Decision) : Type 0 where
   pub says : said (r .answer) ≡ cond (r .accepted) (yesOf (f .costs) (ofNumber (j .number) (plan (termsOf f) (busyOf f) (byDeadline (waitingOf f ++ j ∷ []))))) (refused 8)
 
 -- what an offer to a farm that passes comes to
-pub record Decides (f : Farm) (s z d : ℕ) (r : Decision) : Type 0 where
-  pub says : said (r .answer) ≡ offerSaid f s z d
+pub record Decides (f : Farm) (o : Offer) (r : Decision) : Type 0 where
+  pub says : said (r .answer) ≡ offerSaid f o
   -- accepted: one number more is used, and these jobs wait
-  pub accepts : r .accepted ≡ true → (offerFarm f s z d ≡ nextFarm f (r .jobs)) × (f .waiting < 128) × (f .used < greatest)
-  pub refuses : r .accepted ≡ false → offerFarm f s z d ≡ f
+  pub accepts : r .accepted ≡ true → (offerFarm f o ≡ nextFarm f (r .jobs)) × (f .waiting < 128) × (f .used < greatest)
+  pub refuses : r .accepted ≡ false → offerFarm f o ≡ f
 
 no-zero : (q : Question) → numberOf q ≡ 0 → ⊥
 no-zero question.Nodes h = omega arith
@@ -165,20 +169,20 @@ no-zero question.Time h = omega arith
 no-zero question.Lines h = omega arith
 no-zero question.Farm h = omega arith
 
-module _ (f : Farm) (s z d : ℕ) where
+module _ (f : Farm) (o : Offer) where
   -- A question before the walk stops it.
-  pub decides-no : (q : Question) (js : List Job) → numberOf q ≡ offerAsked f s z d → Decides f s z d (record { accepted = false; answer = answer.No q; jobs = js })
+  pub decides-no : (q : Question) (js : List Job) → numberOf q ≡ offerAsked f o → Decides f o (record { accepted = false; answer = answer.No q; jobs = js })
   unfolding offerSaid offerFarm
   decides-no q js e =
-      let n : eqb (offerAsked f s z d) 0 ≡ false = ne-eqb (offerAsked f s z d) 0 (λ h. no-zero q (e ∙ h)) in
+      let n : eqb (offerAsked f o) 0 ≡ false = ne-eqb (offerAsked f o) 0 (λ h. no-zero q (e ∙ h)) in
       record { says = rw (n, e); accepts = λ h. absurd (false≢true h); refuses = λ h. rw n }
 
   -- Past those, the walk decides it.
-  pub decides-planned : (r : Decision) → offerAsked f s z d ≡ 0 → Planned f (newJob f s z d) r → Decides f s z d r
+  pub decides-planned : (r : Decision) → offerAsked f o ≡ 0 → Planned f (newJob f o) r → Decides f o r
   unfolding offerSaid offerFarm
   decides-planned r e p =
-      let y : eqb (offerAsked f s z d) 0 ≡ true = eq-eqb (offerAsked f s z d) 0 e in
-      let g = offer-granted f s z d e in
+      let y : eqb (offerAsked f o) 0 ≡ true = eq-eqb (offerAsked f o) 0 e in
+      let g = offer-granted f o e in
       record {
         says = p .says ∙ rw (y, ← p .books);
         accepts = λ h. (rw (y, ← p .books, h, p .plans h), g .place .0, g .place .1);

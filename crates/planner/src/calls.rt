@@ -34,6 +34,7 @@ pub fn empty_job() -> Job
         number: 0,
         show: 0,
         size: 0,
+        compute: 0,
         deadline: 0,
         booking,
     }

@@ -28,6 +28,20 @@ pub struct Farm {
     pub jobs: [Job; 128],
 }
 
+// The compute cost of a job that is offered: absent, where the farm's serves, or given.
+pub enum ComputeCost {
+    Absent,
+    Given(u64),
+}
+
+// What is offered: a show's job of a size by a deadline, with its compute cost.
+pub struct Offer {
+    pub show: u64,
+    pub size: u64,
+    pub deadline: u64,
+    pub compute: ComputeCost,
+}
+
 // The question that was answered no.
 pub enum Question {
     Nodes,

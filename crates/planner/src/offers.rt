@@ -6,12 +6,14 @@ ghost use Prim.Native.Nat.{_+_};
 ghost use Rattle.booking.specs.Model.{bookingOf};
 ghost use Rattle.walk.specs.Chunks.{Sends};
 ghost use Rattle.planner.specs.Passes.{passesOf};
-ghost use Rattle.planner.specs.Calls.{said, Replies, yesOf, offerAsked, offerSaid, offerFarm};
+ghost use Rattle.planner.specs.Calls.{said, Replies, computeOr, computeOf, yesOf, offerAsked, offerSaid, offerFarm};
 ghost use Rattle.planner.specs.CallsSteps.{Offered};
 ghost use Rattle.planner.specs.OfferSteps.{askedOf, Planned, Decides};
 use crate::Answer;
+use crate::ComputeCost;
 use crate::Decision;
 use crate::Farm;
+use crate::Offer;
 use crate::Question;
 use crate::Reply;
 use crate::calls::empty_job;
@@ -33,14 +35,25 @@ enum Asked {
     No(Question),
 }
 
+// The compute cost that is given, otherwise the farm's.
+fn compute_or(farms: u64, cost: ComputeCost) -> u64
+    ensures { λ r. ⌜ r ≡ computeOr farms cost ⌝ }
+{
+    match cost {
+        ComputeCost::Absent => farms,
+        ComputeCost::Given(own) => own,
+    }
+}
+
 // The job that is offered, not booked yet.
-fn new_job(number: u64, show: u64, size: u32, deadline: u64) -> Job
-    ensures { λ r. ⌜ r ≡ record { number = number; show = show; size = size; deadline = deadline; booking = bookingOf 0 [] [] } ⌝ }
+fn new_job(number: u64, show: u64, size: u32, compute: u32, deadline: u64) -> Job
+    ensures { λ r. ⌜ r ≡ record { number = number; show = show; size = size; compute = compute; deadline = deadline; booking = bookingOf 0 [] [] } ⌝ }
 {
     let mut job = empty_job();
     job.number = number;
     job.show = show;
     job.size = size;
+    job.compute = compute;
     job.deadline = deadline;
     job
 }
@@ -95,18 +108,21 @@ fn planned(farm: Farm, job: Job) -> Decision
     }
 }
 
-// Questions 4, 5, 6 and 7 in that order.
-fn ask(farm: Farm, show: u64, size: u64, deadline: u64) -> Asked
-    requires { ⌜ passesOf farm ≡ true ⌝ }
-    ensures { λ r. ⌜ askedOf r ≡ offerAsked farm show size deadline ⌝ }
+// Questions 4, 5, 2, 6 and 7 in that order; `compute` is the compute cost that the job would have.
+fn ask(farm: Farm, offer: Offer, compute: u64) -> Asked
+    requires { ⌜ (passesOf farm ≡ true) × (compute ≡ computeOf farm offer) ⌝ }
+    ensures { λ r. ⌜ askedOf r ≡ offerAsked farm offer ⌝ }
 {
-    if !between(1, show, farm.shows as u64) {
+    if !between(1, offer.show, farm.shows as u64) {
         return Asked::No(Question::Show);
     }
-    if !between(1, size, 1_000_000) {
+    if !between(1, offer.size, 1_000_000) {
         return Asked::No(Question::Size);
     }
-    if !deadline_within(farm.clock, deadline) {
+    if !between(1, compute, 1_000_000) {
+        return Asked::No(Question::Costs);
+    }
+    if !deadline_within(farm.clock, offer.deadline) {
         return Asked::No(Question::Deadline);
     }
     if !place_left(farm.waiting, farm.used) {
@@ -116,14 +132,14 @@ fn ask(farm: Farm, show: u64, size: u64, deadline: u64) -> Asked
 }
 
 impl Farm {
-    // An offer: questions 11, 4, 5, 6, 7 and 8 in that order.
-    pub fn offer(self, show: u64, size: u64, deadline: u64) -> Reply
-        ensures { λ r. ⌜ Replies r (offerSaid self show size deadline) (offerFarm self show size deadline) ⌝ }
+    // An offer: questions 11, 4, 5, 2, 6, 7 and 8 in that order.
+    pub fn offer(self, offer: Offer) -> Reply
+        ensures { λ r. ⌜ Replies r (offerSaid self offer) (offerFarm self offer) ⌝ }
     {
         if !passes(self) {
             return refused(self, Question::Farm);
         }
-        let decision = self.offer_unchecked(show, size, deadline);
+        let decision = self.offer_unchecked(offer);
         let mut farm = self;
         if decision.accepted {
             let jobs = decision.jobs;
@@ -137,19 +153,31 @@ impl Farm {
 
     // An offer to a farm that passes question 11: what it is told and, where it is accepted, the jobs that wait then. The caller
     // keeps the farm, so that a refusal copies nothing back.
-    pub fn offer_unchecked(self, show: u64, size: u64, deadline: u64) -> Decision
+    pub fn offer_unchecked(self, offer: Offer) -> Decision
         requires { ⌜ passesOf self ≡ true ⌝ }
-        ensures { λ r. ⌜ Decides self show size deadline r ⌝ }
+        ensures { λ r. ⌜ Decides self offer r ⌝ }
     {
         let jobs = self.jobs;
-        let first = ask(self, show, size, deadline);
+        let costs = self.costs;
+        let cost = offer.compute;
+        let compute = compute_or(costs.compute, cost);
+        let first = ask(self, offer, compute);
         match first {
             Asked::No(question) => Decision {
                 accepted: false,
                 answer: Answer::No(question),
                 jobs,
             },
-            Asked::Yes => planned(self, new_job(self.used + 1, show, size as u32, deadline)),
+            Asked::Yes => planned(
+                self,
+                new_job(
+                    self.used + 1,
+                    offer.show,
+                    offer.size as u32,
+                    compute as u32,
+                    offer.deadline,
+                ),
+            ),
         }
     }
 }

@@ -81,10 +81,11 @@ kindAmong (k ∷ ks) w = cond (same w (wordOf k)) k (kindAmong ks w)
 unfoldable pub kindOf : List ℕ → Kind
 kindOf w = kindAmong kinds w
 
--- how many numbers follow: nodes and four costs for a farm, then its allowances; show, size and deadline for a job; a time; a show
+-- how many numbers follow: nodes and four costs for a farm, then its allowances; show, size and deadline for a job, then its compute cost if it is
+-- given; a time; a show
 abbrev pub fits : Kind → ℕ → Bool
 fits kind.Farm n = leb 5 n
-fits kind.Job n = eqb n 3
+fits kind.Job n = leb 3 n && leb n 4
 fits kind.Clock n = eqb n 1
 fits kind.Account n = eqb n 1
 fits kind.Unreadable n = false

@@ -105,7 +105,7 @@ fn fitting(kind: Kind, count: usize) -> bool
 {
     match kind {
         Kind::Farm => 5 <= count,
-        Kind::Job => count == 3,
+        Kind::Job => 3 <= count && count <= 4,
         Kind::Clock => count == 1,
         Kind::Account => count == 1,
         Kind::Unreadable => false,

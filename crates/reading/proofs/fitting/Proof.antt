@@ -1,5 +1,6 @@
 -- `reading::fitting` meets its contract, kind by kind.
 use borrow.Author.Needs.{needs}
+use borrow.Author.Tests.{le-leb, lt-leb}
 use Rattle.reading.proofs.fitting.Statement.{statement}
 use Rattle.reading.proofs.fitting.Tie as tie
 
@@ -22,16 +23,19 @@ returns : tie.Need-returns
 returns c = rw (c .enum-told .given .1)
 
 returns-2 : tie.Need-returns-2
-returns-2 c = rw (c .enum-told2 .given .1)
+returns-2 c = rw (c .before .enum-told2 .given .1, le-leb 3 _ (c .if1 .taken))
 
 returns-3 : tie.Need-returns-3
-returns-3 c = rw (c .enum-told3 .given .1)
+returns-3 c = rw (c .before .enum-told2 .given .1, lt-leb 3 _ (c .if1 .left))
 
 returns-4 : tie.Need-returns-4
-returns-4 c = rw (c .enum-told4 .given .1)
+returns-4 c = rw (c .enum-told3 .given .1)
 
 returns-5 : tie.Need-returns-5
-returns-5 c = search needs
+returns-5 c = rw (c .enum-told4 .given .1)
+
+returns-6 : tie.Need-returns-6
+returns-6 c = search needs
 
 pub fitting-spec : {M : Type 1} → statement M
 fitting-spec =
@@ -46,4 +50,5 @@ fitting-spec =
     returns-2
     returns-3
     returns-4
-    returns-5)
+    returns-5
+    returns-6)

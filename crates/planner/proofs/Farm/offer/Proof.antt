@@ -16,8 +16,8 @@ refused-requires c κs = search needs
 returns : tie.Need-returns
 returns c =
     let a = c .before .before .before .args in
-    offer-refused (a .self) (a .show) (a .size) (a .deadline) (c .refused .result) _ (c .refused .ensures)
-    (asked-farm (a .self) (a .show) (a .size) (a .deadline) (sym (c .before .before .passes .ensures) ∙ not-true _ (c .before .if1 .taken))) refl
+    offer-refused (a .self) (a .offer) (c .refused .result) _ (c .refused .ensures)
+    (asked-farm (a .self) (a .offer) (sym (c .before .before .passes .ensures) ∙ not-true _ (c .before .if1 .taken))) refl
 
 offer-unchecked-requires : tie.Need-offer-unchecked-requires
 offer-unchecked-requires c κs = sym (c .before .passes .ensures) ∙ not-false _ (c .if1 .left)

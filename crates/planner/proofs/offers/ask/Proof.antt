@@ -1,10 +1,17 @@
 -- `planner::offers::ask` meets its contract, one return a question.
-use mathlib.Core.Path.{sym, _∙_}
+use mathlib.Core.Path.{_≡_, sym, ap, _∙_}
+use mathlib.Core.Bool.{Bool}
+use Prim.Native.Nat.{ℕ}
 use borrow.Author.Tests.{not-true, not-false}
-use Rattle.planner.specs.CallsSteps.{asked-show, asked-size, asked-deadline, asked-queue, asked-all}
+use Rattle.planner.specs.Model.{between}
+use Rattle.planner.specs.CallsSteps.{asked-show, asked-size, asked-compute, asked-deadline, asked-queue, asked-all}
 use borrow.Author.Needs.{needs}
 use Rattle.planner.proofs.offers.ask.Statement.{statement}
 use Rattle.planner.proofs.offers.ask.Tie as tie
+
+-- the test of the compute cost, put of the cost that the job would have
+priced : (p q : ℕ) (r : Bool) → p ≡ q → r ≡ between 1 p 1_000_000 → between 1 q 1_000_000 ≡ r
+priced p q r e h = sym (h ∙ ap (λ (k : ℕ). between 1 k 1_000_000) e)
 
 between-requires : tie.Need-between-requires
 between-requires c κs = search needs
@@ -12,8 +19,7 @@ between-requires c κs = search needs
 returns : tie.Need-returns
 returns c =
     let s = c .before .before in
-    let a = s .args in
-    sym (asked-show (a .farm) (a .show) (a .size) (a .deadline) (s .pre) (sym (c .before .between .ensures) ∙ not-true _ (c .if1 .taken)))
+    sym (asked-show (s .args .farm) (s .args .offer) (s .pre .0) (sym (c .before .between .ensures) ∙ not-true _ (c .if1 .taken)))
 
 between-requires-2 : tie.Need-between-requires-2
 between-requires-2 c κs = search needs
@@ -22,22 +28,21 @@ returns-2 : tie.Need-returns-2
 returns-2 c =
     let t = c .before .before in
     let s = t .before .before in
-    let a = s .args in
-    sym (asked-size (a .farm) (a .show) (a .size) (a .deadline) (s .pre) (sym (t .before .between .ensures) ∙ not-false _ (t .if1 .left)) (sym (c .before .between2 .ensures) ∙ not-true _ (c .if2 .taken)))
+    sym (asked-size (s .args .farm) (s .args .offer) (s .pre .0) (sym (t .before .between .ensures) ∙ not-false _ (t .if1 .left)) (sym (c .before .between2 .ensures) ∙ not-true _ (c .if2 .taken)))
 
-deadline-within-requires : tie.Need-deadline-within-requires
-deadline-within-requires c κs = search needs
+between-requires-3 : tie.Need-between-requires-3
+between-requires-3 c κs = search needs
 
 returns-3 : tie.Need-returns-3
 returns-3 c =
     let u = c .before .before in
     let t = u .before .before in
     let s = t .before .before in
-    let a = s .args in
-    sym (asked-deadline (a .farm) (a .show) (a .size) (a .deadline) (s .pre) (sym (t .before .between .ensures) ∙ not-false _ (t .if1 .left)) (sym (u .before .between2 .ensures) ∙ not-false _ (u .if2 .left)) (sym (c .before .deadline-within .ensures) ∙ not-true _ (c .if3 .taken)))
+    sym (asked-compute (s .args .farm) (s .args .offer) (s .pre .0) (sym (t .before .between .ensures) ∙ not-false _ (t .if1 .left)) (sym (u .before .between2 .ensures) ∙ not-false _ (u .if2 .left))
+    (priced _ _ _ (s .pre .1) (c .before .between3 .ensures) ∙ not-true _ (c .if3 .taken)))
 
-place-left-requires : tie.Need-place-left-requires
-place-left-requires c κs = search needs
+deadline-within-requires : tie.Need-deadline-within-requires
+deadline-within-requires c κs = search needs
 
 returns-4 : tie.Need-returns-4
 returns-4 c =
@@ -45,17 +50,31 @@ returns-4 c =
     let u = v .before .before in
     let t = u .before .before in
     let s = t .before .before in
-    let a = s .args in
-    sym (asked-queue (a .farm) (a .show) (a .size) (a .deadline) (s .pre) (sym (t .before .between .ensures) ∙ not-false _ (t .if1 .left)) (sym (u .before .between2 .ensures) ∙ not-false _ (u .if2 .left)) (sym (v .before .deadline-within .ensures) ∙ not-false _ (v .if3 .left)) (sym (c .before .place-left .ensures) ∙ not-true _ (c .if4 .taken)))
+    sym (asked-deadline (s .args .farm) (s .args .offer) (s .pre .0) (sym (t .before .between .ensures) ∙ not-false _ (t .if1 .left)) (sym (u .before .between2 .ensures) ∙ not-false _ (u .if2 .left))
+    (priced _ _ _ (s .pre .1) (v .before .between3 .ensures) ∙ not-false _ (v .if3 .left)) (sym (c .before .deadline-within .ensures) ∙ not-true _ (c .if4 .taken)))
+
+place-left-requires : tie.Need-place-left-requires
+place-left-requires c κs = search needs
 
 returns-5 : tie.Need-returns-5
 returns-5 c =
-    let v = c .before .before in
+    let w = c .before .before in
+    let v = w .before .before in
     let u = v .before .before in
     let t = u .before .before in
     let s = t .before .before in
-    let a = s .args in
-    sym (asked-all (a .farm) (a .show) (a .size) (a .deadline) (s .pre) (sym (t .before .between .ensures) ∙ not-false _ (t .if1 .left)) (sym (u .before .between2 .ensures) ∙ not-false _ (u .if2 .left)) (sym (v .before .deadline-within .ensures) ∙ not-false _ (v .if3 .left)) (sym (c .before .place-left .ensures) ∙ not-false _ (c .if4 .left)))
+    sym (asked-queue (s .args .farm) (s .args .offer) (s .pre .0) (sym (t .before .between .ensures) ∙ not-false _ (t .if1 .left)) (sym (u .before .between2 .ensures) ∙ not-false _ (u .if2 .left))
+    (priced _ _ _ (s .pre .1) (v .before .between3 .ensures) ∙ not-false _ (v .if3 .left)) (sym (w .before .deadline-within .ensures) ∙ not-false _ (w .if4 .left)) (sym (c .before .place-left .ensures) ∙ not-true _ (c .if5 .taken)))
+
+returns-6 : tie.Need-returns-6
+returns-6 c =
+    let w = c .before .before in
+    let v = w .before .before in
+    let u = v .before .before in
+    let t = u .before .before in
+    let s = t .before .before in
+    sym (asked-all (s .args .farm) (s .args .offer) (s .pre .0) (sym (t .before .between .ensures) ∙ not-false _ (t .if1 .left)) (sym (u .before .between2 .ensures) ∙ not-false _ (u .if2 .left))
+    (priced _ _ _ (s .pre .1) (v .before .between3 .ensures) ∙ not-false _ (v .if3 .left)) (sym (w .before .deadline-within .ensures) ∙ not-false _ (w .if4 .left)) (sym (c .before .place-left .ensures) ∙ not-false _ (c .if5 .left)))
 
 pub ask-spec : {M : Type 1} → statement M
 ask-spec =
@@ -65,8 +84,10 @@ ask-spec =
     returns
     between-requires-2
     returns-2
-    deadline-within-requires
+    between-requires-3
     returns-3
-    place-left-requires
+    deadline-within-requires
     returns-4
-    returns-5)
+    place-left-requires
+    returns-5
+    returns-6)
