@@ -10,6 +10,7 @@ use lib.ListN.{length, getD, drop, length-append, List·getD-append}
 use lib.Seq.{length-take-le}
 use Rattle.lists.specs.Laws.{All, Pairs, all-nth, all-map, pairs-join, perm-length, perm-pairs}
 use Rattle.limits.specs.Says.{between-is}
+use Rattle.booking.specs.Model.{bookingOf}
 use Rattle.walk.specs.declared.Job.{Job}
 use Rattle.walk.specs.declared.Terms.{Terms}
 use Rattle.walk.specs.declared.Busy.{Busy}
@@ -74,6 +75,10 @@ offer-granted f o h =
 -- The new job may be walked.
 pub offer-offered : (f : Farm) (o : Offer) → OfferGranted f o → Offered f (newJob f o)
 offer-offered f o g = record { passes = g .passes; size = g .size .0; deadline = g .deadline .1; waiting = g .place .0 }
+
+-- A job with the compute cost that was worked out is the new job.
+pub new-job-is : (f : Farm) (o : Offer) (p : ℕ) (j : Job) → j ≡ record { number = f .used + 1; show = o .show; size = o .size; compute = p; deadline = o .deadline; booking = bookingOf 0 [] [] } → p ≡ computeOf f o → j ≡ newJob f o
+new-job-is f o p j e h = e ∙ rw h
 
 -- ---- The new job in the plan
 
