@@ -7,28 +7,31 @@ use mathlib.Core.Bool.{Bool, true, cond}
 use lib.Dec.{eqb}
 use lib.ListN.{length, getD, take}
 use Rattle.lists.specs.Laws.{All}
+use Rattle.shares.specs.declared.Costs.{Costs}
+use Rattle.shares.specs.Model.{sendEnd, chunkFinish}
 use Rattle.walk.specs.declared.Job.{Job}
 use Rattle.walk.specs.declared.Chunk.{Chunk}
 use Rattle.planner.specs.declared.Farm.{Farm}
-use Rattle.planner.specs.Model.{Span, linesOf, spansOf, waitingOf}
-use Rattle.planner.specs.Calls.{Said, ofNumber, planned, offerSaid, offerFarm}
+use Rattle.planner.specs.declared.Offer.{Offer}
+use Rattle.planner.specs.Model.{withCompute, Span, linesOf, spansOf, waitingOf}
+use Rattle.planner.specs.Calls.{Said, ofNumber, computeOf, planned, offerSaid, offerFarm}
 use Rattle.planner.specs.Clock.{holds, moveSaid, moveFarm, moveMemory}
 
 -- ---- A call
 
--- an offer of a show's job of a size by a deadline; or a move to a time, lent a timetable of any length and contents
+-- an offer; or a move to a time, lent a timetable of any length and contents
 pub data Call : Type 0 where
-  offer : ℕ → ℕ → ℕ → Call
+  offer : Offer → Call
   move : ℕ → List Chunk → Call
 
 -- what it answers
 abbrev pub reply : Farm → Call → Said
-reply f (offer s z d) = offerSaid f s z d
+reply f (offer o) = offerSaid f o
 reply f (move t m) = moveSaid f t (length m)
 
 -- the farm that it hands back
 abbrev pub handed : Farm → Call → Farm
-handed f (offer s z d) = offerFarm f s z d
+handed f (offer o) = offerFarm f o
 handed f (move t m) = moveFarm f t (length m)
 
 -- whether all its questions were answered yes
@@ -41,7 +44,7 @@ withStart f x = record { from = ofNumber (x .job) (waitingOf f) .booking .start;
 
 -- the chunks that it issues: as many records as it answers, from the front of the memory that it hands back
 abbrev pub linesBy : Farm → Call → List Span
-linesBy f (offer s z d) = []
+linesBy f (offer o) = []
 linesBy f (move t m) = cond (isGranted f (move t m)) (map (withStart f) (take (getD (moveSaid f t (length m) .values) 1 0) (moveMemory f t m))) []
 
 -- a job as it was accepted
@@ -49,21 +52,22 @@ pub record Accepted : Type 0 where
   pub number : ℕ
   pub show : ℕ
   pub size : ℕ
+  pub compute : ℕ
   pub deadline : ℕ
 
--- the job that it accepts, with the number that it answers
+-- the job that it accepts, with the number that it answers and the compute cost that is given or the farm's
 abbrev pub jobsBy : Farm → Call → List Accepted
-jobsBy f (offer s z d) = cond (isGranted f (offer s z d)) (record { number = getD (offerSaid f s z d .values) 0 0; show = s; size = z; deadline = d } ∷ []) []
+jobsBy f (offer o) = cond (isGranted f (offer o)) (record { number = getD (offerSaid f o .values) 0 0; show = o .show; size = o .size; compute = computeOf f o; deadline = o .deadline } ∷ []) []
 jobsBy f (move t m) = []
 
 -- the plan of the latest walk that replaced the plan: that of a granted offer, else the former
 abbrev pub planBy : Farm → List Job → Call → List Job
-planBy f js (offer s z d) = cond (isGranted f (offer s z d)) (planned f s z d) js
+planBy f js (offer o) = cond (isGranted f (offer o)) (planned f o) js
 planBy f js (move t m) = js
 
 -- the time of the last granted clock move
 abbrev pub timeBy : Farm → ℕ → Call → ℕ
-timeBy f u (offer s z d) = u
+timeBy f u (offer o) = u
 timeBy f u (move t m) = cond (isGranted f (move t m)) t u
 
 -- ---- A list of calls
@@ -129,13 +133,20 @@ unitsIn (x ∷ xs) = x .units + unitsIn xs
 
 -- what a waiting or begun job was accepted as
 abbrev pub acceptedOf : Job → Accepted
-acceptedOf j = record { number = j .number; show = j .show; size = j .size; deadline = j .deadline }
+acceptedOf j = record { number = j .number; show = j .show; size = j .size; compute = j .compute; deadline = j .deadline }
 
--- chunks that do what was accepted: of its number and show, some units each, adding up to its size, ending by its deadline
-pub record Fulfils (x : Accepted) (ls : List Chunk) : Type 0 where
+-- the costs that it was accepted with: the farm's, with its compute cost
+abbrev pub costsOf : Costs → Accepted → Costs
+costsOf c x = withCompute c (x .compute)
+
+-- chunks that do what was accepted: of its number and show, some units each, adding up to its size, sent and finished as its costs make it, ending by
+-- its deadline
+pub record Fulfils (c : Costs) (x : Accepted) (ls : List Chunk) : Type 0 where
   pub named : All (λ (y : Chunk). (y .job ≡ x .number) × (y .show ≡ x .show)) ls
   pub each : All (λ (y : Chunk). 1 ≤ y .units) ls
   pub all : unitsIn ls ≡ x .size
+  pub sent : All (λ (y : Chunk). y .sent ≡ sendEnd (costsOf c x) (y .start) (y .units)) ls
+  pub finish : All (λ (y : Chunk). y .finish ≡ chunkFinish (costsOf c x) (y .start) (y .units)) ls
   pub ends : All (λ (y : Chunk). y .finish ≤ x .deadline) ls
 
 -- every one of these chunks has as its job's start the send start of the first
@@ -150,11 +161,11 @@ pub record Waits (x : Accepted) (f : Farm) : Type 0 where
   pub job : Job
   pub among : List·Memᴰ job (waitingOf f)
   pub same : acceptedOf job ≡ x
-  pub booked : Fulfils x (linesOf (f .costs) job)
+  pub booked : Fulfils (f .costs) x (linesOf (f .costs) job)
 
 -- the call is a granted clock move that reaches the start u
 abbrev pub Reaches : Farm → Call → ℕ → Type 0
-Reaches f (offer s z d) u = ⊥
+Reaches f (offer o) u = ⊥
 Reaches f (move t m) u = (isGranted f (move t m) ≡ true) × (u ≤ t)
 
 -- no chunk of job n is among these

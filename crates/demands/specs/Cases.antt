@@ -10,16 +10,11 @@ use Rattle.booking.specs.Best.{units}
 use Rattle.booking.specs.Model.{nodeKeys, ranked, search, bookingOf, bookedAt, bookOf}
 use Rattle.soundness.specs.Model.{noneOf, allDiffer, jobWithin, sharesKept, jobKept, jobPasses, jobsPass}
 use Rattle.planner.specs.declared.Farm.{Farm}
+use Rattle.planner.specs.declared.Offer.{Offer}
 use Rattle.limits.specs.Model.{allAtMost, allAtLeast, costsWithin}
 use Rattle.planner.specs.Model.{chunksFrom, spansOfAll, afters, waitingOf, keysBy, plan, booksAll, fitAll}
 use Rattle.planner.specs.Passes.{countsWithin, timesWithin, waitingPass, passesOf}
-use Rattle.planner.specs.Calls.{Yes, Said, granted, refused, openFarm, ofNumber, offerAsked, offerSaid, offerFarm}
-
--- an offer of a job
-pub record Offer : Type 0 where
-  pub show : ℕ
-  pub size : ℕ
-  pub deadline : ℕ
+use Rattle.planner.specs.Calls.{Yes, Said, granted, refused, openFarm, ofNumber, offerOf, offerAsked, offerSaid, offerFarm}
 
 -- what comes of an offer: the answer, and the shares of the new job in the farm that is handed back (none where it is refused)
 pub record Outcome : Type 0 where
@@ -46,13 +41,13 @@ no n = record { answer = refused n; shares = [] }
 -- the farm once each offer of a list is made
 unfoldable pub offered : Farm → List Offer → Farm
 offered f [] = f
-offered f (o ∷ os) = offered (offerFarm f (o .show) (o .size) (o .deadline)) os
+offered f (o ∷ os) = offered (offerFarm f o) os
 
 -- an offer made to a farm
 unfoldable pub outcome : Farm → Offer → Outcome
 outcome f o = record {
-  answer = offerSaid f (o .show) (o .size) (o .deadline);
-  shares = units (ofNumber (f .used + 1) (waitingOf (offerFarm f (o .show) (o .size) (o .deadline))) .booking);
+  answer = offerSaid f o;
+  shares = units (ofNumber (f .used + 1) (waitingOf (offerFarm f o)) .booking);
 }
 
 -- a row as the model has it
@@ -76,7 +71,7 @@ alone n c z w e = record {
   costs = c;
   allowances = 0 ∷ [];
   before = [];
-  offer = record { show = 1; size = z; deadline = w };
+  offer = offerOf 1 z w;
   expected = e;
 }
 
@@ -86,8 +81,8 @@ afterListing d e = record {
   nodes = 3;
   costs = costsOf 1 2 0 0;
   allowances = 30 ∷ 0 ∷ [];
-  before = record { show = 1; size = 10; deadline = 18 } ∷ record { show = 2; size = 3; deadline = 20 } ∷ [];
-  offer = record { show = 2; size = 2; deadline = d };
+  before = offerOf 1 10 18 ∷ offerOf 2 3 20 ∷ [];
+  offer = offerOf 2 2 d;
   expected = e;
 }
 

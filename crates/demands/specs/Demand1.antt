@@ -15,9 +15,10 @@ use lib.ListN.{length, drop}
 use Rattle.shares.specs.declared.Costs.{Costs}
 use Rattle.walk.specs.declared.Chunk.{Chunk}
 use Rattle.planner.specs.declared.Farm.{Farm}
+use Rattle.planner.specs.declared.Offer.{Offer}
 use Rattle.planner.specs.Model.{greatest, between, costsWithin}
 use Rattle.planner.specs.Passes.{passesOf}
-use Rattle.planner.specs.Calls.{Open, Yes, Clock, Shown, Account, Said, granted, refused, showsWithin, openSaid, openFarm, unopened, openedWith, accountSaid, heldBy, allowanceOf, planned, accepts, withPlan, ofNumber, yesOf, offerAsked, offerSaid, offerFarm}
+use Rattle.planner.specs.Calls.{Open, Yes, Clock, Shown, Account, Said, granted, refused, showsWithin, openSaid, openFarm, unopened, openedWith, accountSaid, heldBy, allowanceOf, computeOf, planned, accepts, withPlan, ofNumber, yesOf, offerAsked, offerSaid, offerFarm}
 use Rattle.planner.specs.Clock.{issued, movedFarm, moveAsked, moveSaid, moveFarm, moveMemory, shown, shownAsked, shownSaid, shownMemory}
 use Rattle.demands.specs.MoveAnswers.{move-is, move-stopped, shown-is, shown-stopped}
 
@@ -47,28 +48,29 @@ open-asks n c al = go (between 1 n 64) (costsWithin c) (showsWithin al)
     go true false d = refl
     go false b d = refl
 
--- An offer is refused with 11, 4, 5, 6, 7 or 8, and granted otherwise.
-pub offer-asks : (f : Farm) (s z d : ℕ)
-    → offerSaid f s z d .number
-    ≡ firstNo (asks 11 (passesOf f) ∷ asks 4 (between 1 s (f .shows)) ∷ asks 5 (between 1 z 1_000_000) ∷ asks 6 (ltb (f .clock) d && leb d greatest) ∷ asks 7 (ltb (f .waiting) 128 && ltb (f .used) greatest) ∷ asks 8 (accepts f s z d) ∷ [])
+-- An offer is refused with 11, 4, 5, 2, 6, 7 or 8, and granted otherwise.
+pub offer-asks : (f : Farm) (o : Offer)
+    → offerSaid f o .number
+    ≡ firstNo (asks 11 (passesOf f) ∷ asks 4 (between 1 (o .show) (f .shows)) ∷ asks 5 (between 1 (o .size) 1_000_000) ∷ asks 2 (between 1 (computeOf f o) 1_000_000) ∷ asks 6 (ltb (f .clock) (o .deadline) && leb (o .deadline) greatest) ∷ asks 7 (ltb (f .waiting) 128 && ltb (f .used) greatest) ∷ asks 8 (accepts f o) ∷ [])
 unfolding offerSaid offerAsked firstNo
-offer-asks f s z d =
-    go (passesOf f) (between 1 s (f .shows)) (between 1 z 1_000_000) (ltb (f .clock) d && leb d greatest) (ltb (f .waiting) 128 && ltb (f .used) greatest) (accepts f s z d)
-    (yesOf (f .costs) (ofNumber (f .used + 1) (planned f s z d)) .values)
+offer-asks f o =
+    go (passesOf f) (between 1 (o .show) (f .shows)) (between 1 (o .size) 1_000_000) (between 1 (computeOf f o) 1_000_000) (ltb (f .clock) (o .deadline) && leb (o .deadline) greatest) (ltb (f .waiting) 128 && ltb (f .used) greatest) (accepts f o)
+    (yesOf (f .costs) (ofNumber (f .used + 1) (planned f o)) .values)
   where
-    asked : Bool → Bool → Bool → Bool → Bool → ℕ
-    asked a b c e g = cond a (cond b (cond c (cond e (cond g 0 7) 6) 5) 4) 11
+    asked : Bool → Bool → Bool → Bool → Bool → Bool → ℕ
+    asked a b c p e g = cond a (cond b (cond c (cond p (cond e (cond g 0 7) 6) 2) 5) 4) 11
 
-    go : (a b c e g h : Bool) (vs : List ℕ)
-        → cond {A = Said} (eqb (asked a b c e g) 0) (cond h (granted Yes vs) (refused 8)) (refused (asked a b c e g)) .number
-        ≡ cond {A = ℕ} a (cond b (cond c (cond e (cond g (cond h 0 8) 7) 6) 5) 4) 11
-    go true true true true true true vs = refl
-    go true true true true true false vs = refl
-    go true true true true false h vs = refl
-    go true true true false g h vs = refl
-    go true true false e g h vs = refl
-    go true false c e g h vs = refl
-    go false b c e g h vs = refl
+    go : (a b c p e g h : Bool) (vs : List ℕ)
+        → cond {A = Said} (eqb (asked a b c p e g) 0) (cond h (granted Yes vs) (refused 8)) (refused (asked a b c p e g)) .number
+        ≡ cond {A = ℕ} a (cond b (cond c (cond p (cond e (cond g (cond h 0 8) 7) 6) 2) 5) 4) 11
+    go true true true true true true true vs = refl
+    go true true true true true true false vs = refl
+    go true true true true true false h vs = refl
+    go true true true true false g h vs = refl
+    go true true true false e g h vs = refl
+    go true true false p e g h vs = refl
+    go true false c p e g h vs = refl
+    go false b c p e g h vs = refl
 
 -- A clock move is refused with 11, 9 or 10, and granted otherwise.
 pub move-asks : (f : Farm) (t n : ℕ) → moveSaid f t n .number ≡ firstNo (asks 11 (passesOf f) ∷ asks 9 (between (f .clock) t greatest) ∷ asks 10 (leb (length (issued f t)) n) ∷ [])
@@ -122,12 +124,12 @@ open-keeps n c al k = go (between 1 n 64) (costsWithin c) (showsWithin al)
     go false b d e = refl
 
 -- A refused offer hands back the farm as it was.
-pub offer-keeps : (f : Farm) (s z d k : ℕ) → offerSaid f s z d .number ≡ suc k → offerFarm f s z d ≡ f
+pub offer-keeps : (f : Farm) (o : Offer) (k : ℕ) → offerSaid f o .number ≡ suc k → offerFarm f o ≡ f
 unfolding offerSaid offerFarm
-offer-keeps f s z d k = go (eqb (offerAsked f s z d) 0) (accepts f s z d) (yesOf (f .costs) (ofNumber (f .used + 1) (planned f s z d)) .values)
+offer-keeps f o k = go (eqb (offerAsked f o) 0) (accepts f o) (yesOf (f .costs) (ofNumber (f .used + 1) (planned f o)) .values)
   where
-    go : (a h : Bool) (vs : List ℕ) → cond {A = Said} a (cond h (granted Yes vs) (refused 8)) (refused (offerAsked f s z d)) .number ≡ suc k
-        → cond {A = Farm} a (cond h (withPlan f (planned f s z d)) f) f ≡ f
+    go : (a h : Bool) (vs : List ℕ) → cond {A = Said} a (cond h (granted Yes vs) (refused 8)) (refused (offerAsked f o)) .number ≡ suc k
+        → cond {A = Farm} a (cond h (withPlan f (planned f o)) f) f ≡ f
     go true true vs e = absurd (omega arith)
     go true false vs e = refl
     go false h vs e = refl

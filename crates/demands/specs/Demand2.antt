@@ -1,5 +1,6 @@
 -- Demand 2, its sentences beside the parts of the claim (`Demand2` below; `demand2` at the end is the theorem):
---   "An offer whose farm, show, size, deadline and place in the queue pass document 01's questions"   questions
+--   "An offer whose farm, show, size, deadline and place in the queue pass document 01's questions"   questions; document 02 (i): "Demand 2 means
+--                                                                                                     this question too", whether the compute cost passes
 --   "is accepted exactly when the deadline walk there books every waiting job and the new one;"       accepted, replaces, walked, last
 --   "any other is refused."                                                                           stopped, unbooked
 --   "A job fails there exactly when no permitted start, no nodes free at that start and no division into whole units end
@@ -23,78 +24,81 @@ use Rattle.walk.specs.Order.{Precedes}
 use Rattle.walk.specs.WalkSteps.{Ready}
 use Rattle.walk.specs.BestWalk.{InTurn, BestAll, Fails, walk-iff, walk-each, walked-jobs}
 use Rattle.planner.specs.declared.Farm.{Farm}
+use Rattle.planner.specs.declared.Offer.{Offer}
 use Rattle.planner.specs.Model.{Sized, waitingOf, busyOf, termsOf, deadlineOf, requestOf, step}
 use Rattle.planner.specs.PassesSteps.{passes-within, passes-jobs}
 use Rattle.planner.specs.Calls.{Said, refused, newJob, queueOf, planned, accepts, withPlan, offerAsked, offerSaid, offerFarm}
 use Rattle.planner.specs.CallsSteps.{walk-ready}
-use Rattle.demands.specs.Offers.{Granted, offer-stopped, asked-granted, granted-asked, granted-offered, offer-is}
+use Rattle.planner.specs.OfferSteps.{OfferGranted, offer-granted, offer-offered}
+use Rattle.demands.specs.Offers.{offer-stopped, granted-asked, offer-is}
 use Rattle.demands.specs.OfferPasses.{waiting-planned}
 
 -- ---- The claim
 
--- demand 2 of an offer to the farm f: of show s, z units, by the deadline d
-pub record Demand2 (f : Farm) (s z d : ℕ) : Type 0 where
-  -- Questions 11, 4, 5, 6 and 7 are passed exactly when the farm, the show, the size, the deadline and the place in the queue are as they ask.
-  pub questions : (offerAsked f s z d ≡ 0) ↔ Granted f s z d
+-- demand 2 of an offer to the farm f
+pub record Demand2 (f : Farm) (o : Offer) : Type 0 where
+  -- Questions 11, 4, 5, 2, 6 and 7 are passed exactly when the farm, the show, the size, the compute cost, the deadline and the place in the queue are as
+  -- they ask.
+  pub questions : (offerAsked f o ≡ 0) ↔ OfferGranted f o
   -- An offer is accepted exactly when it passes them and the walk books every waiting job and the new one.
-  pub accepted : (offerSaid f s z d .number ≡ 0) ↔ ((offerAsked f s z d ≡ 0) × (accepts f s z d ≡ true))
+  pub accepted : (offerSaid f o .number ≡ 0) ↔ ((offerAsked f o ≡ 0) × (accepts f o ≡ true))
   -- Then the plan of that walk replaces the old one, and nothing else waits in the next farm.
-  pub replaces : offerSaid f s z d .number ≡ 0 → (offerFarm f s z d ≡ withPlan f (planned f s z d)) × (waitingOf (offerFarm f s z d) ≡ planned f s z d)
+  pub replaces : offerSaid f o .number ≡ 0 → (offerFarm f o ≡ withPlan f (planned f o)) × (waitingOf (offerFarm f o) ≡ planned f o)
   -- Any other is refused, with the number of the first question answered no or with 8, and the farm is as it was.
-  pub stopped : (n : ℕ) → offerAsked f s z d ≡ suc n → (offerSaid f s z d ≡ refused (suc n)) × (offerFarm f s z d ≡ f)
-  pub unbooked : offerAsked f s z d ≡ 0 → accepts f s z d ≡ false → (offerSaid f s z d ≡ refused 8) × (offerFarm f s z d ≡ f)
+  pub stopped : (n : ℕ) → offerAsked f o ≡ suc n → (offerSaid f o ≡ refused (suc n)) × (offerFarm f o ≡ f)
+  pub unbooked : offerAsked f o ≡ 0 → accepts f o ≡ false → (offerSaid f o ≡ refused 8) × (offerFarm f o ≡ f)
   -- What is walked is the waiting jobs and the new one, each once, by deadline, equal deadlines by number,
-  pub walked : List·Permᴰ (waitingOf f ++ newJob f s z d ∷ []) (queueOf f s z d) × Pairs (Precedes deadlineOf) (queueOf f s z d)
+  pub walked : List·Permᴰ (waitingOf f ++ newJob f o ∷ []) (queueOf f o) × Pairs (Precedes deadlineOf) (queueOf f o)
   -- of which the new one has the largest.
-  pub last : offerAsked f s z d ≡ 0 → All (λ (j : Job). j .number < newJob f s z d .number) (waitingOf f)
+  pub last : offerAsked f o ≡ 0 → All (λ (j : Job). j .number < newJob f o .number) (waitingOf f)
   -- The walk books all exactly when each job has the best of all choices behind those before it, and not all exactly when some job has no choice at
   -- all behind the best of those before it.
-  pub books : offerAsked f s z d ≡ 0
-      → ((accepts f s z d ≡ true) ↔ BestAll (termsOf f) (busyOf f) (queueOf f s z d)) × ((accepts f s z d ≡ false) ↔ Fails (termsOf f) (busyOf f) (queueOf f s z d))
-  -- Each job of the walk, b the free times that those before it have left, has no booking exactly when it has no choice; otherwise it has the best
+  pub books : offerAsked f o ≡ 0
+      → ((accepts f o ≡ true) ↔ BestAll (termsOf f) (busyOf f) (queueOf f o)) × ((accepts f o ≡ false) ↔ Fails (termsOf f) (busyOf f) (queueOf f o))
+  -- Each job of the walk, by its own costs, b the free times that those before it have left, has no booking exactly when it has no choice; otherwise it has the best
   -- of all choices, and no other booking is that.
-  pub jobs : offerAsked f s z d ≡ 0 → InTurn (λ w b j. IsBooking (requestOf w b j) (b .free) (step w b j .booking)) (termsOf f) (busyOf f) (queueOf f s z d)
+  pub jobs : offerAsked f o ≡ 0 → InTurn (λ w b j. IsBooking (requestOf w b j) (b .free) (step w b j .booking)) (termsOf f) (busyOf f) (queueOf f o)
 
 -- ---- The theorem
 
-module _ (f : Farm) (s z d : ℕ) where
+module _ (f : Farm) (o : Offer) where
   -- An offer that is accepted has passed the questions before the walk.
-  passed : offerSaid f s z d .number ≡ 0 → offerAsked f s z d ≡ 0
-  passed h = go (offerAsked f s z d) refl
+  passed : offerSaid f o .number ≡ 0 → offerAsked f o ≡ 0
+  passed h = go (offerAsked f o) refl
     where
-      go : (n : ℕ) → offerAsked f s z d ≡ n → offerAsked f s z d ≡ 0
+      go : (n : ℕ) → offerAsked f o ≡ n → offerAsked f o ≡ 0
       go zero q = q
-      go (suc n) q = absurd (let r = ap (λ (x : Said). x .number) (offer-stopped f s z d n q .0) in omega arith)
+      go (suc n) q = absurd (let r = ap (λ (x : Said). x .number) (offer-stopped f o n q .0) in omega arith)
 
   -- What the walk of an offer past them starts from.
-  ready : offerAsked f s z d ≡ 0 → Ready (termsOf f) (busyOf f) (queueOf f s z d)
-  ready e = walk-ready f (newJob f s z d) (granted-offered f s z d (asked-granted f s z d e))
+  ready : offerAsked f o ≡ 0 → Ready (termsOf f) (busyOf f) (queueOf f o)
+  ready e = walk-ready f (newJob f o) (offer-offered f o (offer-granted f o e))
 
   module _ (sized : Sized f) where
-    enough : offerAsked f s z d ≡ 0 → f .nodes ≤ length (f .free)
-    enough e = omega (arith, sized .free, passes-within f (asked-granted f s z d e .passes) .nodes .1)
+    enough : offerAsked f o ≡ 0 → f .nodes ≤ length (f .free)
+    enough e = omega (arith, sized .free, passes-within f (offer-granted f o e .passes) .nodes .1)
 
     -- The walk of an offer that is accepted books all, and the next farm has its plan.
-    accepted-plan : offerSaid f s z d .number ≡ 0 → (accepts f s z d ≡ true) × (offerFarm f s z d ≡ withPlan f (planned f s z d))
+    accepted-plan : offerSaid f o .number ≡ 0 → (accepts f o ≡ true) × (offerFarm f o ≡ withPlan f (planned f o))
     accepted-plan h =
         ⊎-elim (λ x. (x .0, x .3)) (λ x. absurd (let r = ap (λ (y : Said). y .number) (x .2) in omega arith))
-        (offer-is f s z d (enough (passed h)) (passed h))
+        (offer-is f o (enough (passed h)) (passed h))
 
 -- **Demand 2.** It holds of every offer to every farm.
-pub demand2 : (f : Farm) (s z d : ℕ) → Sized f → Demand2 f s z d
-demand2 f s z d sized = record {
-  questions = (asked-granted f s z d, granted-asked f s z d);
+pub demand2 : (f : Farm) (o : Offer) → Sized f → Demand2 f o
+demand2 f o sized = record {
+  questions = (offer-granted f o, granted-asked f o);
   accepted = (
-    λ h. (passed f s z d h, accepted-plan f s z d sized h .0),
-    λ h. ⊎-elim (λ x. x .2) (λ x. absurd (false≢true (sym (x .0) ∙ h .1))) (offer-is f s z d (enough f s z d sized (h .0)) (h .0)),
+    λ h. (passed f o h, accepted-plan f o sized h .0),
+    λ h. ⊎-elim (λ x. x .2) (λ x. absurd (false≢true (sym (x .0) ∙ h .1))) (offer-is f o (enough f o sized (h .0)) (h .0)),
   );
   replaces = λ h.
-      let t = accepted-plan f s z d sized h in
-      (t .1, ap waitingOf (t .1) ∙ waiting-planned f s z d sized (asked-granted f s z d (passed f s z d h)) (t .0));
-  stopped = offer-stopped f s z d;
-  unbooked = λ e n. ⊎-elim (λ x. absurd (false≢true (sym n ∙ x .0))) (λ x. (x .2, x .3)) (offer-is f s z d (enough f s z d sized e) e);
-  walked = walked-jobs (waitingOf f ++ newJob f s z d ∷ []);
-  last = λ e. all-map (λ j h. omega (arith, h .0 .number .1)) (waitingOf f) (passes-jobs f (asked-granted f s z d e .passes));
-  books = λ e. walk-iff (termsOf f) (busyOf f) (queueOf f s z d) (ready f s z d e) (enough f s z d sized e);
-  jobs = λ e. walk-each (termsOf f) (busyOf f) (queueOf f s z d) (ready f s z d e) (enough f s z d sized e);
+      let t = accepted-plan f o sized h in
+      (t .1, ap waitingOf (t .1) ∙ waiting-planned f o sized (offer-granted f o (passed f o h)) (t .0));
+  stopped = offer-stopped f o;
+  unbooked = λ e n. ⊎-elim (λ x. absurd (false≢true (sym n ∙ x .0))) (λ x. (x .2, x .3)) (offer-is f o (enough f o sized e) e);
+  walked = walked-jobs (waitingOf f ++ newJob f o ∷ []);
+  last = λ e. all-map (λ j h. omega (arith, h .0 .number .1)) (waitingOf f) (passes-jobs f (offer-granted f o e .passes));
+  books = λ e. walk-iff (termsOf f) (busyOf f) (queueOf f o) (ready f o e) (enough f o sized e);
+  jobs = λ e. walk-each (termsOf f) (busyOf f) (queueOf f o) (ready f o e) (enough f o sized e);
 }

@@ -30,12 +30,14 @@ use Rattle.booking.specs.Best.{freeAt, units}
 use Rattle.walk.specs.declared.Job.{Job}
 use Rattle.walk.specs.declared.Busy.{Busy}
 use Rattle.planner.specs.declared.Farm.{Farm}
-use Rattle.planner.specs.Model.{between, costsWithin, Span, linesOf, spansOf, spansOfAll, Sized, after, afters, byDeadline, byStart, plan, waitingOf, busyOf, termsOf, Between, Apart}
+use Rattle.planner.specs.declared.Offer.{Offer}
+use Rattle.planner.specs.Model.{between, costsWithin, ownCosts, Span, linesOf, spansOf, spansOfAll, Sized, after, afters, byDeadline, byStart, plan, waitingOf, busyOf, termsOf, Between, Apart}
 use Rattle.planner.specs.Passes.{passesOf}
 use Rattle.walk.specs.Chain.{Fits, Chain, chain-append, Proper, free-same, free-other, after-length, chain-apart}
 use Rattle.walk.specs.Order.{by-start-perm, by-deadline-perm}
 use Rattle.walk.specs.BestWalk.{BestAll, walk-best}
 use Rattle.planner.specs.CallsSteps.{walk-ready}
+use Rattle.planner.specs.OfferSteps.{offer-offered}
 use Rattle.soundness.specs.Sweep.{spans-all, spans-perm, apart-sym}
 use Rattle.demands.specs.QuestionEleven.{passes-iff}
 use Rattle.planner.specs.Calls.{Open, Said, granted, refused, showsWithin, openFarm, openSaid, heldBy, newJob, queueOf, planned, withPlan}
@@ -59,7 +61,7 @@ pub record Issued (x : Accepted) (w : History) : Type 0 where
   pub lines : linesFor (x .number) (w .lines) ≡ spansOf (w .farm .costs) job
   -- the start noted with each is the send start of the first
   pub start : FromFirst (linesFor (x .number) (w .lines))
-  pub chunks : Fulfils x (linesOf (w .farm .costs) job)
+  pub chunks : Fulfils (w .farm .costs) x (linesOf (w .farm .costs) job)
 
 -- A job accepted as x waits: none of its chunks has been issued, those booked do what was accepted, as the latest walk that replaced the plan gave
 -- them, and the clock has not reached its deadline.
@@ -70,10 +72,10 @@ pub record Booked (x : Accepted) (w : History) : Type 0 where
   pub early : w .farm .clock < x .deadline
 
 -- The walk of an offer that was accepted after v: what it knew, and that it gave each job the best of all choices behind those before it (demand 2).
-pub record Walked (v : History) (s z d : ℕ) : Type 0 where
+pub record Walked (v : History) (o : Offer) : Type 0 where
   -- its plan replaced the old one
-  pub plans : note v (offer s z d) .latest ≡ plan (termsOf (v .farm)) (busyOf (v .farm)) (byDeadline (waitingOf (v .farm) ++ newJob (v .farm) s z d ∷ []))
-  pub best : BestAll (termsOf (v .farm)) (busyOf (v .farm)) (byDeadline (waitingOf (v .farm) ++ newJob (v .farm) s z d ∷ []))
+  pub plans : note v (offer o) .latest ≡ plan (termsOf (v .farm)) (busyOf (v .farm)) (byDeadline (waitingOf (v .farm) ++ newJob (v .farm) o ∷ []))
+  pub best : BestAll (termsOf (v .farm)) (busyOf (v .farm)) (byDeadline (waitingOf (v .farm) ++ newJob (v .farm) o ∷ []))
   -- it knew the clock, and as free times the latest finish of an issued chunk on each node and the latest end of an issued send
   pub clock : termsOf (v .farm) .clock ≡ v .time
   pub free : (k : ℕ) → Between 1 k (v .farm .nodes) → freeAt (busyOf (v .farm) .free) k ≡ latestFinish k (v .lines)
@@ -112,8 +114,8 @@ pub record Demand3 (f : Farm) (cs : List Call) (w : History) : Type 0 where
   pub latest : All (λ (j : Job). List·Memᴰ j (w .latest)) (waitingOf (w .farm))
   pub accepted : All (λ (j : Job). List·Memᴰ (acceptedOf j) (w .jobs)) (waitingOf (w .farm))
   -- Each such walk knew the clock, the waiting jobs, the new one and the free times that the issued chunks left.
-  pub walks : (before : List Call) (s z d : ℕ) (after : List Call) → Split cs before (offer s z d) after → isGranted (run (opening f) before .farm) (offer s z d) ≡ true
-      → Walked (run (opening f) before) s z d
+  pub walks : (before : List Call) (o : Offer) (after : List Call) → Split cs before (offer o) after → isGranted (run (opening f) before .farm) (offer o) ≡ true
+      → Walked (run (opening f) before) o
   -- No two waiting jobs share a start, so a move to the next start issues at most 64 lines, and is granted wherever 64 records are lent.
   pub starts : Pairs StartsDiffer (waitingOf (w .farm))
   pub next : (j : Job) → List·Memᴰ j (waitingOf (w .farm)) → All (λ (k : Job). j .booking .start ≤ k .booking .start) (waitingOf (w .farm))
@@ -197,7 +199,7 @@ module _ (w : History) (i : Inv w) where
   job-early : (j : Job) → Waiting (w .farm) j → w .farm .clock < j .deadline
   job-early j h =
       let m = passes-iff (w .farm) (i .sized) .0 (i .passes) .within .costs .send .0 in
-      omega (arith, h .sound .clock, h .sound .ends, finish-after (w .farm .costs) (j .booking .start) (units (j .booking)) m (omega (arith, h .paired .0, h .paired .1)) (h .sound .each))
+      omega (arith, h .sound .clock, h .sound .ends, finish-after (ownCosts (w .farm .costs) j) (j .booking .start) (units (j .booking)) m (omega (arith, h .paired .0, h .paired .1)) (h .sound .each))
 
   waiting-booked : All (λ (j : Job). Booked (acceptedOf j) w) (waitingOf (w .farm))
   waiting-booked = all-of (waitingOf (w .farm)) (λ j m. record {
@@ -261,30 +263,30 @@ module _ (w : History) (i : Inv w) where
 -- A job that a call accepts waits after it.
 new-among : (f : Farm) (c : Call) → Sized f → All (λ (x : Accepted). Among x (handed f c)) (jobsBy f c)
 new-among f (move t m) z = tt
-new-among f (offer s y d) z = ⊎-elim (λ r. subst (All (λ (x : Accepted). Among x (handed f (offer s y d)))) (sym (r .jobs)) tt) takes (outcome f (offer s y d) z)
+new-among f (offer o) z = ⊎-elim (λ r. subst (All (λ (x : Accepted). Among x (handed f (offer o)))) (sym (r .jobs)) tt) takes (outcome f (offer o) z)
   where
-    takes : Takes f s y d → All (λ (x : Accepted). Among x (handed f (offer s y d))) (jobsBy f (offer s y d))
+    takes : Takes f o → All (λ (x : Accepted). Among x (handed f (offer o))) (jobsBy f (offer o))
     takes k =
-        let new = newJob f s y d ∷ [] in
-        let one : List·Memᴰ (taken f s y d) (map acceptedOf (waitingOf f ++ new)) = mem-image acceptedOf (mem-right (waitingOf f) (List·Memᴰ·head refl)) in
-        let two : List·Memᴰ (taken f s y d) (map acceptedOf (queueOf f s y d)) = perm-mem (Permᴰ·map acceptedOf (by-deadline-perm (waitingOf f ++ new))) one in
-        let three : Among (taken f s y d) (withPlan f (planned f s y d)) =
-        subst (λ (l : List Job). List·Memᴰ (taken f s y d) (map acceptedOf l)) (sym (waiting-planned f s y d z (k .granted) (k .books)))
-        (subst (List·Memᴰ (taken f s y d)) (sym (plan-accepted (termsOf f) (busyOf f) (queueOf f s y d))) two) in
-        subst (All (λ (x : Accepted). Among x (handed f (offer s y d)))) (sym (k .jobs)) (subst (Among (taken f s y d)) (sym (k .hands)) three, tt)
+        let new = newJob f o ∷ [] in
+        let one : List·Memᴰ (taken f o) (map acceptedOf (waitingOf f ++ new)) = mem-image acceptedOf (mem-right (waitingOf f) (List·Memᴰ·head refl)) in
+        let two : List·Memᴰ (taken f o) (map acceptedOf (queueOf f o)) = perm-mem (Permᴰ·map acceptedOf (by-deadline-perm (waitingOf f ++ new))) one in
+        let three : Among (taken f o) (withPlan f (planned f o)) =
+        subst (λ (l : List Job). List·Memᴰ (taken f o) (map acceptedOf l)) (sym (waiting-planned f o z (k .granted) (k .books)))
+        (subst (List·Memᴰ (taken f o)) (sym (plan-accepted (termsOf f) (busyOf f) (queueOf f o))) two) in
+        subst (All (λ (x : Accepted). Among x (handed f (offer o)))) (sym (k .jobs)) (subst (Among (taken f o)) (sym (k .hands)) three, tt)
 
 -- The walk of an accepted offer.
-offer-walked : (w : History) (s z d : ℕ) → Inv w → isGranted (w .farm) (offer s z d) ≡ true → Walked w s z d
-offer-walked w s z d i e = ⊎-elim (λ r. absurd (false≢true (sym (r .says) ∙ e))) takes (outcome (w .farm) (offer s z d) (i .sized))
+offer-walked : (w : History) (o : Offer) → Inv w → isGranted (w .farm) (offer o) ≡ true → Walked w o
+offer-walked w o i e = ⊎-elim (λ r. absurd (false≢true (sym (r .says) ∙ e))) takes (outcome (w .farm) (offer o) (i .sized))
   where
-    takes : Takes (w .farm) s z d → Walked w s z d
+    takes : Takes (w .farm) o → Walked w o
     takes k =
         let f = w .farm in
         let g = k .granted in
         let n = passes-iff f (i .sized) .0 (i .passes) .within .nodes .1 in
         record {
           plans = k .latest (w .latest);
-          best = walk-best (termsOf f) (busyOf f) (queueOf f s z d) (walk-ready f (newJob f s z d) (record { passes = g .passes; size = g .size .0; deadline = g .deadline; waiting = g .waiting }))
+          best = walk-best (termsOf f) (busyOf f) (queueOf f o) (walk-ready f (newJob f o) (offer-offered f o g))
               (omega (arith, n, i .sized .free)) (k .books);
           clock = i .clock;
           free = node-free w i;
@@ -293,7 +295,7 @@ offer-walked w s z d i e = ⊎-elim (λ r. absurd (false≢true (sym (r .says) �
 
 -- No call after it issues a chunk of a job that a call has issued.
 issued-issues-none : (w : History) (c : Call) (cs : List Call) → Inv w → All (λ (y : Span). IssuesNone (y .chunk .job) (handed (w .farm) c) cs) (linesBy (w .farm) c)
-issued-issues-none w (offer s y d) cs i = tt
+issued-issues-none w (offer o) cs i = tt
 issued-issues-none w (move t m) cs i = ⊎-elim (λ r. subst (All P) (sym (r .lines)) tt) moves (outcome (w .farm) (move t m) (i .sized))
   where
     P : Span → Type 0
@@ -344,7 +346,7 @@ demand3 n c al e cs =
       numbers = i .numbers;
       latest = i .latest;
       accepted = all-of (waitingOf (w .farm)) (λ j m. past-number w i j (mem-right (i .past) m));
-      walks = λ before s z d after h g. offer-walked (run (opening f) before) s z d (run-inv (opening f) before o) g;
+      walks = λ before x after h g. offer-walked (run (opening f) before) x (run-inv (opening f) before o) g;
       starts = starts-differ (w .farm) (i .sized) (i .passes);
       next = λ j m h. (next-few (w .farm) (i .sized) (i .passes) j m h, next-granted (w .farm) (i .sized) (i .passes) j m h);
       passes = i .passes;

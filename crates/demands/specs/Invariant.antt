@@ -17,7 +17,8 @@ use Rattle.walk.specs.declared.Terms.{Terms}
 use Rattle.walk.specs.declared.Busy.{Busy}
 use Rattle.walk.specs.declared.Chunk.{Chunk}
 use Rattle.planner.specs.declared.Farm.{Farm}
-use Rattle.planner.specs.Model.{greatest, between, costsWithin, Span, linesOf, spansOf, spansOfAll, Sized, afters, waitingOf, busyOf, termsOf, busyAfter, plan, Between}
+use Rattle.planner.specs.declared.Offer.{Offer}
+use Rattle.planner.specs.Model.{greatest, between, costsWithin, ownCosts, finishOf, Span, linesOf, spansOf, spansOfAll, Sized, afters, waitingOf, busyOf, termsOf, busyAfter, plan, Between}
 use Rattle.planner.specs.Passes.{passesOf}
 use Rattle.walk.specs.Chain.{Chain, chain-append, Proper, job-finish, afters-length}
 use Rattle.walk.specs.Order.{by-deadline-perm}
@@ -47,7 +48,7 @@ pub record Whole (c : Costs) (shows : ℕ) (j : Job) : Type 0 where
   pub paired : Paired j
   pub each : Positive (units (j .booking))
   pub all : sum (units (j .booking)) ≡ j .size
-  pub ends : finish c (j .booking .start) (units (j .booking)) ≤ j .deadline
+  pub ends : finishOf c j ≤ j .deadline
   pub proper : All (Proper 64) (spansOf c j)
 
 -- what holds after every list of calls
@@ -131,50 +132,50 @@ unfolding plan
 plan-accepted w b [] = refl
 plan-accepted w b (j ∷ js) = ap (λ (l : List Accepted). acceptedOf j ∷ l) (plan-accepted w (busyAfter w b j) js)
 
-module _ (w : History) (s z d : ℕ) where
+module _ (w : History) (o : Offer) where
   abbrev offered : History
-  offered = historyOf (withPlan (w .farm) (planned (w .farm) s z d)) (w .lines) (w .jobs ++ taken (w .farm) s z d ∷ []) (planned (w .farm) s z d) (w .time)
+  offered = historyOf (withPlan (w .farm) (planned (w .farm) o)) (w .lines) (w .jobs ++ taken (w .farm) o ∷ []) (planned (w .farm) o) (w .time)
 
-  takes-note : Takes (w .farm) s z d → note w (offer s z d) ≡ offered
+  takes-note : Takes (w .farm) o → note w (offer o) ≡ offered
   takes-note k = same-world (k .hands) (append-nil (w .lines)) (ap (λ (l : List Accepted). w .jobs ++ l) (k .jobs)) (k .latest (w .latest)) refl
 
   taken-jobs : (past : List Job) → List·Permᴰ (w .jobs) (map acceptedOf (past ++ waitingOf (w .farm)))
-      → List·Permᴰ (w .jobs ++ taken (w .farm) s z d ∷ []) (map acceptedOf (past ++ planned (w .farm) s z d))
+      → List·Permᴰ (w .jobs ++ taken (w .farm) o ∷ []) (map acceptedOf (past ++ planned (w .farm) o))
   taken-jobs past h =
       let f = w .farm in
       let ws = waitingOf f in
-      let new = newJob f s z d ∷ [] in
-      let one : List·Permᴰ (w .jobs ++ taken f s z d ∷ []) (map acceptedOf (past ++ ws) ++ map acceptedOf new) = Permᴰ·append-right (taken f s z d ∷ []) h in
+      let new = newJob f o ∷ [] in
+      let one : List·Permᴰ (w .jobs ++ taken f o ∷ []) (map acceptedOf (past ++ ws) ++ map acceptedOf new) = Permᴰ·append-right (taken f o ∷ []) h in
       let two : map acceptedOf (past ++ ws) ++ map acceptedOf new ≡ map acceptedOf (past ++ (ws ++ new)) =
       sym (map-join acceptedOf (past ++ ws) new) ∙ ap (map acceptedOf) (append-assoc past ws new) in
-      let three : List·Permᴰ (map acceptedOf (past ++ (ws ++ new))) (map acceptedOf (past ++ queueOf f s z d)) = Permᴰ·map acceptedOf (Permᴰ·append-left past (by-deadline-perm (ws ++ new))) in
-      let four : map acceptedOf (past ++ queueOf f s z d) ≡ map acceptedOf (past ++ planned f s z d) =
-      map-join acceptedOf past (queueOf f s z d) ∙ ap (λ (l : List Accepted). map acceptedOf past ++ l) (sym (plan-accepted (termsOf f) (busyOf f) (queueOf f s z d))) ∙ sym (map-join acceptedOf past (planned f s z d)) in
-      List·Permᴰ·trans (subst (List·Permᴰ (w .jobs ++ taken f s z d ∷ [])) two one) (subst (List·Permᴰ (map acceptedOf (past ++ (ws ++ new)))) four three)
+      let three : List·Permᴰ (map acceptedOf (past ++ (ws ++ new))) (map acceptedOf (past ++ queueOf f o)) = Permᴰ·map acceptedOf (Permᴰ·append-left past (by-deadline-perm (ws ++ new))) in
+      let four : map acceptedOf (past ++ queueOf f o) ≡ map acceptedOf (past ++ planned f o) =
+      map-join acceptedOf past (queueOf f o) ∙ ap (λ (l : List Accepted). map acceptedOf past ++ l) (sym (plan-accepted (termsOf f) (busyOf f) (queueOf f o))) ∙ sym (map-join acceptedOf past (planned f o)) in
+      List·Permᴰ·trans (subst (List·Permᴰ (w .jobs ++ taken f o ∷ [])) two one) (subst (List·Permᴰ (map acceptedOf (past ++ (ws ++ new)))) four three)
 
-  taken-numbers : map (λ (x : Accepted). x .number) (w .jobs) ≡ upTo (w .farm .used) → map (λ (x : Accepted). x .number) (w .jobs ++ taken (w .farm) s z d ∷ []) ≡ upTo (w .farm .used + 1)
+  taken-numbers : map (λ (x : Accepted). x .number) (w .jobs) ≡ upTo (w .farm .used) → map (λ (x : Accepted). x .number) (w .jobs ++ taken (w .farm) o ∷ []) ≡ upTo (w .farm .used + 1)
   unfolding upTo
   taken-numbers h =
-      map-join (λ (x : Accepted). x .number) (w .jobs) (taken (w .farm) s z d ∷ []) ∙ rw (h, add-one (w .farm .used))
+      map-join (λ (x : Accepted). x .number) (w .jobs) (taken (w .farm) o ∷ []) ∙ rw (h, add-one (w .farm .used))
 
   -- An accepted offer keeps the invariant.
-  takes-inv : Inv w → Takes (w .farm) s z d → Inv offered
+  takes-inv : Inv w → Takes (w .farm) o → Inv offered
   takes-inv i k =
       let f = w .farm in
-      let now : waitingOf (withPlan f (planned f s z d)) ≡ planned f s z d = waiting-planned f s z d (i .sized) (k .granted) (k .books) in
-      let size = accepted-sized f s z d (i .sized) (k .granted) (k .books) in
+      let now : waitingOf (withPlan f (planned f o)) ≡ planned f o = waiting-planned f o (i .sized) (k .granted) (k .books) in
+      let size = accepted-sized f o (i .sized) (k .granted) (k .books) in
       record {
         past = i .past;
         sized = size;
-        passes = passes-iff (withPlan f (planned f s z d)) size .1 (accepted-passes f s z d (i .sized) (k .granted) (k .books));
+        passes = passes-iff (withPlan f (planned f o)) size .1 (accepted-passes f o (i .sized) (k .granted) (k .books));
         whole = i .whole;
         lines = i .lines;
         chain = i .chain;
         busy = i .busy;
         held = i .held;
-        jobs = subst (λ (l : List Job). List·Permᴰ (w .jobs ++ taken f s z d ∷ []) (map acceptedOf (i .past ++ l))) (sym now) (taken-jobs (i .past) (i .jobs));
+        jobs = subst (λ (l : List Job). List·Permᴰ (w .jobs ++ taken f o ∷ []) (map acceptedOf (i .past ++ l))) (sym now) (taken-jobs (i .past) (i .jobs));
         numbers = taken-numbers (i .numbers);
-        latest = subst (All (λ (j : Job). List·Memᴰ j (planned f s z d))) (sym now) (all-of (planned f s z d) (λ j m. m));
+        latest = subst (All (λ (j : Job). List·Memᴰ j (planned f o))) (sym now) (all-of (planned f o) (λ j m. m));
         clock = i .clock;
       }
 
@@ -253,7 +254,7 @@ module _ (w : History) (t : ℕ) (m : List Chunk) where
         (all-map (λ j h.
         all-image (λ (x : Span). Between 1 (x .chunk .show) (length (f .held))) (λ (x : Chunk). record { from = j .booking .start; chunk = x }) (linesOf (f .costs) j)
         (all-map (λ x e. (omega (arith, e .1, h .0 .within .show .0), omega (arith, e .1, h .0 .within .show .1, i .sized .held))) (linesOf (f .costs) j)
-        (chunks-named (f .costs) (j .number) (j .show) (j .booking .start) (chosen (j .booking)) (units (j .booking)))))
+        (chunks-named (ownCosts (f .costs) j) (j .number) (j .show) (j .booking .start) (chosen (j .booking)) (units (j .booking)))))
         (begun f t) (begun-jobs f (i .sized) (i .passes) t))
 
     moved-held : (s : ℕ) → Between 1 s 32 → heldBy (movedFarm (w .farm) t) s ≡ heldOf s (w .lines ++ spansOfAll (w .farm .costs) (begun (w .farm) t))
@@ -319,7 +320,7 @@ module _ (w : History) (t : ℕ) (m : List Chunk) where
 
 -- A call keeps the invariant.
 pub note-inv : (w : History) (c : Call) → Inv w → Inv (note w c)
-note-inv w (offer s z d) i = ⊎-elim (λ r. subst Inv (sym (refused-note w (offer s z d) r)) i) (λ k. subst Inv (sym (takes-note w s z d k)) (takes-inv w s z d i k)) (outcome (w .farm) (offer s z d) (i .sized))
+note-inv w (offer o) i = ⊎-elim (λ r. subst Inv (sym (refused-note w (offer o) r)) i) (λ k. subst Inv (sym (takes-note w o k)) (takes-inv w o i k)) (outcome (w .farm) (offer o) (i .sized))
 note-inv w (move t m) i = ⊎-elim (λ r. subst Inv (sym (refused-note w (move t m) r)) i) (λ k. subst Inv (sym (moves-note w t m k)) (moves-inv w t m i k)) (outcome (w .farm) (move t m) (i .sized))
 
 -- So does every list of calls.

@@ -11,13 +11,14 @@ use lib.Dec.{eqb}
 use lib.ListN.{length}
 use Rattle.lists.specs.Laws.{All, Differ, all-map, at-member, all-image, image-all, all-append, all-join, pairs-across, mem-left, mem-right, map-join, perm-all, perm-mem, perm-pairs, pairs-parts}
 use Rattle.shares.specs.declared.Costs.{Costs}
-use Rattle.shares.specs.Model.{sum, sendEnd}
+use Rattle.shares.specs.Model.{sum, sendEnd, chunkFinish}
 use Rattle.shares.specs.Lists.{Positive}
 use Rattle.booking.specs.Best.{chosen, units}
 use Rattle.walk.specs.declared.Job.{Job}
 use Rattle.walk.specs.declared.Chunk.{Chunk}
 use Rattle.planner.specs.declared.Farm.{Farm}
-use Rattle.planner.specs.Model.{Span, chunksFrom, linesOf, spansOf, spansOfAll, Sized, waitingOf, busyOf, termsOf}
+use Rattle.planner.specs.declared.Offer.{Offer}
+use Rattle.planner.specs.Model.{ownCosts, Span, chunksFrom, linesOf, spansOf, spansOfAll, Sized, waitingOf, busyOf, termsOf}
 use Rattle.planner.specs.Passes.{passesOf}
 use Rattle.walk.specs.Model.{spansFrom}
 use Rattle.walk.specs.Chain.{chunks-finish}
@@ -54,7 +55,7 @@ from-image f (x ∷ xs) m = ⊎-elim (λ e. record { it = x; among = List·Mem�
 pub spans-named : (c : Costs) (j : Job) → All (λ (y : Span). y .chunk .job ≡ j .number) (spansOf c j)
 spans-named c j =
     all-image (λ (y : Span). y .chunk .job ≡ j .number) (λ (x : Chunk). record { from = j .booking .start; chunk = x }) (linesOf c j)
-    (all-map (λ x h. h .0) (linesOf c j) (chunks-named c (j .number) (j .show) (j .booking .start) (chosen (j .booking)) (units (j .booking))))
+    (all-map (λ x h. h .0) (linesOf c j) (chunks-named (ownCosts c j) (j .number) (j .show) (j .booking .start) (chosen (j .booking)) (units (j .booking))))
 
 -- Jobs of other numbers have no chunk of job n.
 pub none-of-jobs : (c : Costs) (n : ℕ) (js : List Job) → All (λ (j : Job). j .number ≡ n → ⊥) js → NoneOf n (spansOfAll c js)
@@ -112,16 +113,28 @@ chunks-units c j s t (k ∷ ks) (a ∷ xs) e p =
     let r = chunks-units c j s (sendEnd c t a) ks xs (omega arith) (p .1) in
     ((p .0, r .0), ap (λ (n : ℕ). a + n) (r .1))
 
+-- Each send ends and each chunk finishes when the costs make it.
+chunks-times : (c : Costs) (j s t : ℕ) (ks xs : List ℕ) → All (λ (y : Chunk). (y .sent ≡ sendEnd c (y .start) (y .units)) × (y .finish ≡ chunkFinish c (y .start) (y .units))) (chunksFrom c j s t ks xs)
+unfolding chunksFrom
+chunks-times c j s t [] [] = tt
+chunks-times c j s t [] (a ∷ xs) = tt
+chunks-times c j s t (k ∷ ks) [] = tt
+chunks-times c j s t (k ∷ ks) (a ∷ xs) = ((refl, refl), chunks-times c j s (sendEnd c t a) ks xs)
+
 -- The chunks of a whole job do what it was accepted for.
-pub whole-fulfils : (c : Costs) (n : ℕ) (j : Job) → Whole c n j → Fulfils (acceptedOf j) (linesOf c j)
+pub whole-fulfils : (c : Costs) (n : ℕ) (j : Job) → Whole c n j → Fulfils c (acceptedOf j) (linesOf c j)
 whole-fulfils c n j h =
     let s = j .booking .start in
-    let r = chunks-units c (j .number) (j .show) s (chosen (j .booking)) (units (j .booking)) (h .paired .0) (h .each) in
+    let own = ownCosts c j in
+    let times = chunks-times own (j .number) (j .show) s (chosen (j .booking)) (units (j .booking)) in
+    let r = chunks-units own (j .number) (j .show) s (chosen (j .booking)) (units (j .booking)) (h .paired .0) (h .each) in
     record {
-      named = chunks-named c (j .number) (j .show) s (chosen (j .booking)) (units (j .booking));
+      named = chunks-named own (j .number) (j .show) s (chosen (j .booking)) (units (j .booking));
       each = r .0;
       all = r .1 ∙ h .all;
-      ends = all-map (λ x k. omega (arith, h .ends)) (linesOf c j) (chunks-finish c (j .number) (j .show) s (chosen (j .booking)) (units (j .booking)));
+      sent = all-map (λ x k. k .0) (linesOf c j) times;
+      finish = all-map (λ x k. k .1) (linesOf c j) times;
+      ends = all-map (λ x k. omega (arith, h .ends)) (linesOf c j) (chunks-finish own (j .number) (j .show) s (chosen (j .booking)) (units (j .booking)));
     }
 
 chunks-first : (c : Costs) (j s t : ℕ) (ks xs : List ℕ) → FromFirst (spansFrom c j s t t ks xs)
@@ -133,7 +146,7 @@ chunks-first c j s t (k ∷ ks) (a ∷ xs) = (refl, placed-from t (chunksFrom c 
 
 -- A job's start is the send start of its first chunk.
 pub spans-first : (c : Costs) (j : Job) → FromFirst (spansOf c j)
-spans-first c j = chunks-first c (j .number) (j .show) (j .booking .start) (chosen (j .booking)) (units (j .booking))
+spans-first c j = chunks-first (ownCosts c j) (j .number) (j .show) (j .booking .start) (chosen (j .booking)) (units (j .booking))
 
 -- ---- A job that waits
 
@@ -143,7 +156,7 @@ waits-as f j x z e m q = record {
   job = j;
   among = m;
   same = q;
-  booked = subst (λ (y : Accepted). Fulfils y (linesOf (f .costs) j)) q (whole-fulfils (f .costs) (f .shows) j (waiting-whole f j (at-member (Waiting f) m (waiting-jobs f z e))));
+  booked = subst (λ (y : Accepted). Fulfils (f .costs) y (linesOf (f .costs) j)) q (whole-fulfils (f .costs) (f .shows) j (waiting-whole f j (at-member (Waiting f) m (waiting-jobs f z e))));
 }
 
 -- A job of this number has begun: its number is among those used, and no waiting job has it.
@@ -180,17 +193,17 @@ module _ (xs ys : List Job) (d : Differ (map numberOfJob (xs ++ ys))) where
 -- ---- A job that has begun
 
 module _ (n : ℕ) (f : Farm) (z : Sized f) (e : passesOf f ≡ true) where
-  no-longer-takes : (s y d : ℕ) → NoLongerWaits n f → Takes f s y d → NoLongerWaits n (withPlan f (planned f s y d))
-  no-longer-takes s y d g k =
+  no-longer-takes : (o : Offer) → NoLongerWaits n f → Takes f o → NoLongerWaits n (withPlan f (planned f o))
+  no-longer-takes o g k =
       let P : ℕ → Type 0 = λ (a : ℕ). a ≡ n → ⊥ in
-      let queue : All (λ (j : Job). j .number ≡ n → ⊥) (queueOf f s y d) =
-      perm-all (λ (j : Job). j .number ≡ n → ⊥) (by-deadline-perm (waitingOf f ++ newJob f s y d ∷ []))
-      (all-join (λ (j : Job). j .number ≡ n → ⊥) (waitingOf f) (newJob f s y d ∷ []) (g .none) ((λ q. omega (arith, g .used)), tt)) in
-      let all : All (λ (j : Job). j .number ≡ n → ⊥) (planned f s y d) =
-      image-all P numberOfJob (planned f s y d) (subst (All P) (sym (plan-numbers (termsOf f) (busyOf f) (queueOf f s y d))) (all-image P numberOfJob (queueOf f s y d) queue)) in
+      let queue : All (λ (j : Job). j .number ≡ n → ⊥) (queueOf f o) =
+      perm-all (λ (j : Job). j .number ≡ n → ⊥) (by-deadline-perm (waitingOf f ++ newJob f o ∷ []))
+      (all-join (λ (j : Job). j .number ≡ n → ⊥) (waitingOf f) (newJob f o ∷ []) (g .none) ((λ q. omega (arith, g .used)), tt)) in
+      let all : All (λ (j : Job). j .number ≡ n → ⊥) (planned f o) =
+      image-all P numberOfJob (planned f o) (subst (All P) (sym (plan-numbers (termsOf f) (busyOf f) (queueOf f o))) (all-image P numberOfJob (queueOf f o) queue)) in
       record {
         used = omega (arith, g .used);
-        none = subst (All (λ (j : Job). j .number ≡ n → ⊥)) (sym (waiting-planned f s y d z (k .granted) (k .books))) all;
+        none = subst (All (λ (j : Job). j .number ≡ n → ⊥)) (sym (waiting-planned f o z (k .granted) (k .books))) all;
       }
 
   no-longer-moves : (t : ℕ) (m : List Chunk) → NoLongerWaits n f → Moves f t m → NoneOf n (linesBy f (move t m)) × NoLongerWaits n (handed f (move t m))
@@ -203,8 +216,8 @@ module _ (n : ℕ) (f : Farm) (z : Sized f) (e : passesOf f ≡ true) where
 
   -- A call issues no chunk of a job that has begun before it, and the job has begun after it too.
   no-longer-stays : (c : Call) → NoLongerWaits n f → NoneOf n (linesBy f c) × NoLongerWaits n (handed f c)
-  no-longer-stays (offer s y d) g =
-      (tt, ⊎-elim (λ r. subst (NoLongerWaits n) (sym (r .hands)) g) (λ k. subst (NoLongerWaits n) (sym (k .hands)) (no-longer-takes s y d g k)) (outcome f (offer s y d) z))
+  no-longer-stays (offer o) g =
+      (tt, ⊎-elim (λ r. subst (NoLongerWaits n) (sym (r .hands)) g) (λ k. subst (NoLongerWaits n) (sym (k .hands)) (no-longer-takes o g k)) (outcome f (offer o) z))
   no-longer-stays (move t m) g =
       ⊎-elim (λ r. (subst (NoneOf n) (sym (r .lines)) tt, subst (NoLongerWaits n) (sym (r .hands)) g)) (λ k. no-longer-moves t m g k) (outcome f (move t m) z)
 
@@ -232,18 +245,18 @@ among-waits : (x : Accepted) (f : Farm) → Sized f → passesOf f ≡ true → 
 among-waits x f z e m = let r = from-image acceptedOf (waitingOf f) m in waits-as f (r .it) x z e (r .among) (r .image)
 
 -- An accepted job waits on over an offer.
-among-takes : (x : Accepted) (f : Farm) (s y d : ℕ) → Sized f → Takes f s y d → Among x f → Among x (withPlan f (planned f s y d))
-among-takes x f s y d z k m =
+among-takes : (x : Accepted) (f : Farm) (o : Offer) → Sized f → Takes f o → Among x f → Among x (withPlan f (planned f o))
+among-takes x f o z k m =
     let ws = waitingOf f in
-    let new = newJob f s y d ∷ [] in
+    let new = newJob f o ∷ [] in
     let one : List·Memᴰ x (map acceptedOf (ws ++ new)) = subst (List·Memᴰ x) (sym (map-join acceptedOf ws new)) (mem-left (map acceptedOf new) m) in
-    let two : List·Memᴰ x (map acceptedOf (queueOf f s y d)) = perm-mem (Permᴰ·map acceptedOf (by-deadline-perm (ws ++ new))) one in
-    subst (λ (l : List Job). List·Memᴰ x (map acceptedOf l)) (sym (waiting-planned f s y d z (k .granted) (k .books)))
-    (subst (List·Memᴰ x) (sym (plan-accepted (termsOf f) (busyOf f) (queueOf f s y d))) two)
+    let two : List·Memᴰ x (map acceptedOf (queueOf f o)) = perm-mem (Permᴰ·map acceptedOf (by-deadline-perm (ws ++ new))) one in
+    subst (λ (l : List Job). List·Memᴰ x (map acceptedOf l)) (sym (waiting-planned f o z (k .granted) (k .books)))
+    (subst (List·Memᴰ x) (sym (plan-accepted (termsOf f) (busyOf f) (queueOf f o))) two)
 
-among-offer : (x : Accepted) (f : Farm) (s y d : ℕ) → Sized f → Among x f → Among x (handed f (offer s y d))
-among-offer x f s y d z m =
-    ⊎-elim (λ r. subst (Among x) (sym (r .hands)) m) (λ k. subst (Among x) (sym (k .hands)) (among-takes x f s y d z k m)) (outcome f (offer s y d) z)
+among-offer : (x : Accepted) (f : Farm) (o : Offer) → Sized f → Among x f → Among x (handed f (offer o))
+among-offer x f o z m =
+    ⊎-elim (λ r. subst (Among x) (sym (r .hands)) m) (λ k. subst (Among x) (sym (k .hands)) (among-takes x f o z k m)) (outcome f (offer o) z)
 
 -- the job begins by this move
 lifecycle-begins : (x : Accepted) (w : History) (t : ℕ) (ms : List Chunk) (cs : List Call) → Inv w → Moves (w .farm) t ms → List·Memᴰ x (map acceptedOf (begun (w .farm) t)) → Lifecycle x (w .farm) (move t ms ∷ cs)
@@ -279,9 +292,9 @@ lifecycle-passes x w t ms cs i k m rest =
 -- Each job that waits is issued by the first granted clock move to reach the start it has then, and never again.
 pub lifecycle : (x : Accepted) (w : History) (cs : List Call) → Inv w → Among x (w .farm) → Lifecycle x (w .farm) cs
 lifecycle x w [] i m = waits (among-waits x (w .farm) (i .sized) (i .passes) m)
-lifecycle x w (offer s y d ∷ cs) i m =
-    passes {c = offer s y d} (among-waits x (w .farm) (i .sized) (i .passes) m) (λ q. q) tt
-    (lifecycle x (note w (offer s y d)) cs (note-inv w (offer s y d) i) (among-offer x (w .farm) s y d (i .sized) m))
+lifecycle x w (offer o ∷ cs) i m =
+    passes {c = offer o} (among-waits x (w .farm) (i .sized) (i .passes) m) (λ q. q) tt
+    (lifecycle x (note w (offer o)) cs (note-inv w (offer o) i) (among-offer x (w .farm) o (i .sized) m))
 lifecycle x w (move t ms ∷ cs) i m = go (λ h. lifecycle x (note w (move t ms)) cs (note-inv w (move t ms) i) h) (outcome (w .farm) (move t ms) (i .sized))
   where
     go : (Among x (handed (w .farm) (move t ms)) → Lifecycle x (handed (w .farm) (move t ms)) cs) → Refused (w .farm) (move t ms) ⊎ Moves (w .farm) t ms → Lifecycle x (w .farm) (move t ms ∷ cs)

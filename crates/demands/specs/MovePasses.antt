@@ -12,7 +12,7 @@ use Rattle.booking.specs.Best.{chosen, units}
 use Rattle.walk.specs.declared.Job.{Job}
 use Rattle.walk.specs.declared.Chunk.{Chunk}
 use Rattle.planner.specs.declared.Farm.{Farm}
-use Rattle.planner.specs.Model.{greatest, linesOf, spansOf, spansOfAll, JobSized, Sized, afters, fitAll, byStart, waitingOf, busyOf, Apart}
+use Rattle.planner.specs.Model.{greatest, ownCosts, linesOf, spansOf, spansOfAll, JobSized, Sized, afters, fitAll, byStart, waitingOf, busyOf, Apart}
 use Rattle.soundness.specs.Model.{jobsPass, allDiffer}
 use Rattle.planner.specs.Passes.{figuresOf, numbersOf, waitingPass, passesOf, JobWithin, JobSound, Passes}
 use Rattle.planner.specs.PassesSteps.{farmWithin, usable}
@@ -145,7 +145,7 @@ module _ (f : Farm) (sized : Sized f) (e : passesOf f ≡ true) where
             waiting = omega (arith, left-few, w .waiting);
           };
           jobs = subst (All (JobWithin (figuresOf farm))) (sym moved-waiting) (perm-all (JobWithin (figuresOf farm)) d
-              (all-map (λ j h. let x = h .0 .within in record { number = x .number; show = x .show; size = x .size; deadline = x .deadline; start = x .start; count = x .count; nodes = x .nodes }) (later f t) later-jobs));
+              (all-map (λ j h. let x = h .0 .within in record { number = x .number; show = x .show; size = x .size; compute = x .compute; deadline = x .deadline; start = x .start; count = x .count; nodes = x .nodes }) (later f t) later-jobs));
           sound = record {
             jobs = subst (All (JobSound (figuresOf farm) (busyOf farm))) (sym moved-waiting) (perm-all (JobSound (figuresOf farm) (busyOf farm)) d later-sound);
             apart = subst (λ (l : List Job). Pairs Apart (spansOfAll (f .costs) l)) (sym moved-waiting)
@@ -162,7 +162,7 @@ module _ (f : Farm) (sized : Sized f) (e : passesOf f ≡ true) where
 -- A waiting job has as many lines as its booking counts.
 pub lines-count : (f : Farm) (j : Job) → Waiting f j → length (linesOf (f .costs) j) ≡ j .booking .count
 lines-count f j h =
-    lines-length (f .costs) (j .number) (j .show) (j .booking .start) (chosen (j .booking)) (units (j .booking)) (h .paired .0)
+    lines-length (ownCosts (f .costs) j) (j .number) (j .show) (j .booking .start) (chosen (j .booking)) (units (j .booking)) (h .paired .0)
     ∙ length-take-le (j .booking .count) (j .booking .shares) (omega (arith, h .sized .shares, h .within .count .1))
 
 -- Several waiting jobs have at most 64 lines each.

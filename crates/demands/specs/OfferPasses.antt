@@ -18,7 +18,8 @@ use Rattle.booking.specs.Booked.{some-share}
 use Rattle.walk.specs.declared.Job.{Job}
 use Rattle.walk.specs.declared.Busy.{Busy}
 use Rattle.planner.specs.declared.Farm.{Farm}
-use Rattle.planner.specs.Model.{greatest, between, allAtMost, costsWithin, emptyJob, spansOfAll, JobSized, Sized, after, waitingOf, busyOf, termsOf, requestOf, step, Apart, Between}
+use Rattle.planner.specs.declared.Offer.{Offer}
+use Rattle.planner.specs.Model.{greatest, between, allAtMost, costsWithin, emptyJob, ownCosts, spansOfAll, JobSized, Sized, after, waitingOf, busyOf, termsOf, requestOf, step, Apart, Between}
 use Rattle.planner.specs.Passes.{figuresOf, passesOf, JobWithin, JobSound, Within, Passes}
 use Rattle.planner.specs.Calls.{unopened, openedWith, showsWithin, openFarm, newJob, queueOf, planned, accepts, withPlan, offerAsked, offerFarm}
 use Rattle.walk.specs.Chain.{Fits, Chain, Proper, chain-follows, chain-apart}
@@ -33,7 +34,7 @@ use Rattle.walk.specs.WalkSteps.{best-sends}
 use Rattle.walk.specs.BestWalk.{BestAll, walk-best}
 use Rattle.walk.specs.Plan.{plan-chain, plan-all, plan-numbers, plan-length}
 use Rattle.planner.specs.CallsSteps.{walk-ready}
-use Rattle.demands.specs.Offers.{Granted, asked-granted}
+use Rattle.planner.specs.OfferSteps.{OfferGranted, offer-granted, offer-offered}
 
 -- ---- An opening
 
@@ -125,6 +126,7 @@ pub record HeadWithin (u s : ℕ) (j : Job) : Type 0 where
   pub number : Between 1 (j .number) u
   pub show : Between 1 (j .show) s
   pub size : Between 1 (j .size) 1_000_000
+  pub compute : Between 1 (j .compute) 1_000_000
   pub deadline : j .deadline ≤ greatest
 
 -- a job of a plan: its figures within the farm's limits, its booking kept, and arrays of their lengths
@@ -155,14 +157,15 @@ best-planned f b j n l h x =
     let w = termsOf f in
     let q = step w b j .booking in
     let k = x .best .choice in
-    let s = best-sends (requestOf w b j) (b .free) (step w b j) n (omega arith) (h .deadline) x in
+    let s = best-sends w b j n (omega arith) (h .deadline) x in
     let some : 1 ≤ length (units q) = some-share (units q) (omega (arith, k .all, h .size .0)) in
-    let by : q .start ≤ j .deadline = finish-latest (f .costs) (q .start) (j .deadline) (units q) .0 (k .ends) .0 in
+    let by : q .start ≤ j .deadline = finish-latest (ownCosts (f .costs) j) (q .start) (j .deadline) (units q) .0 (k .ends) .0 in
     record {
       within = record {
         number = h .number;
         show = h .show;
         size = h .size;
+        compute = h .compute;
         deadline = h .deadline;
         start = omega (arith, h .deadline);
         count = (omega (arith, s .shares), s .few);
@@ -176,50 +179,50 @@ best-planned f b j n l h x =
 -- ---- An accepted offer
 
 -- the jobs that are walked, their figures within the limits of a farm with one number more
-queue-heads : (f : Farm) (s z d : ℕ) → passesOf f ≡ true → Between 1 s (f .shows) → Between 1 z 1_000_000 → d ≤ greatest → All (HeadWithin (f .used + 1) (f .shows)) (queueOf f s z d)
-queue-heads f s z d e p q r =
-    perm-all (HeadWithin (f .used + 1) (f .shows)) (by-deadline-perm (waitingOf f ++ newJob f s z d ∷ []))
-    (all-join (HeadWithin (f .used + 1) (f .shows)) (waitingOf f) (newJob f s z d ∷ [])
-    (all-map (λ x a. record { number = (a .0 .number .0, omega (arith, a .0 .number .1)); show = a .0 .show; size = a .0 .size; deadline = a .0 .deadline }) (waitingOf f) (passes-jobs f e))
-    (record { number = (omega arith, omega arith); show = p; size = q; deadline = r }, tt))
+queue-heads : (f : Farm) (o : Offer) → OfferGranted f o → All (HeadWithin (f .used + 1) (f .shows)) (queueOf f o)
+queue-heads f o g =
+    perm-all (HeadWithin (f .used + 1) (f .shows)) (by-deadline-perm (waitingOf f ++ newJob f o ∷ []))
+    (all-join (HeadWithin (f .used + 1) (f .shows)) (waitingOf f) (newJob f o ∷ [])
+    (all-map (λ x a. record { number = (a .0 .number .0, omega (arith, a .0 .number .1)); show = a .0 .show; size = a .0 .size; compute = a .0 .compute; deadline = a .0 .deadline }) (waitingOf f) (passes-jobs f (g .passes)))
+    (record { number = (omega arith, omega arith); show = g .show; size = g .size; compute = g .compute; deadline = g .deadline .1 }, tt))
 
 -- their numbers, all different
-queue-differ : (f : Farm) (s z d : ℕ) → Passes f → Differ (map (λ (j : Job). j .number) (queueOf f s z d))
-queue-differ f s z d p =
+queue-differ : (f : Farm) (o : Offer) → Passes f → Differ (map (λ (j : Job). j .number) (queueOf f o))
+queue-differ f o p =
     let ws = waitingOf f in
-    let j = newJob f s z d in
+    let j = newJob f o in
     let new : All (λ (y : ℕ). f .used + 1 ≡ y → ⊥) (map (λ (x : Job). x .number) ws) =
     all-image (λ (y : ℕ). f .used + 1 ≡ y → ⊥) (λ (x : Job). x .number) ws (all-map (λ x a e. omega (arith, a .number .1)) ws (p .jobs)) in
     perm-pairs (λ (a b : ℕ). a ≡ b → ⊥) (λ a b n e. n (sym e))
     (Permᴰ·map (λ (x : Job). x .number) (List·Permᴰ·trans (List·Permᴰ·append-comm (j ∷ []) ws) (by-deadline-perm (ws ++ j ∷ []))))
     (new, p .sound .differ)
 
-module _ (f : Farm) (s z d : ℕ) (sized : Sized f) (g : Granted f s z d) (yes′ : accepts f s z d ≡ true) where
+module _ (f : Farm) (o : Offer) (sized : Sized f) (g : OfferGranted f o) (yes′ : accepts f o ≡ true) where
   figures : Within f
   figures = passes-within f (g .passes)
 
-  best : BestAll (termsOf f) (busyOf f) (queueOf f s z d)
+  best : BestAll (termsOf f) (busyOf f) (queueOf f o)
   best =
-      walk-best (termsOf f) (busyOf f) (queueOf f s z d) (walk-ready f (newJob f s z d) (record { passes = g .passes; size = g .size .0; deadline = g .deadline; waiting = g .waiting }))
+      walk-best (termsOf f) (busyOf f) (queueOf f o) (walk-ready f (newJob f o) (offer-offered f o g))
       (omega (arith, sized .free, figures .nodes .1)) yes′
 
   -- Each job of the plan is within its limits and kept.
-  jobs-planned : All (Planned (withPlan f (planned f s z d))) (planned f s z d)
+  jobs-planned : All (Planned (withPlan f (planned f o))) (planned f o)
   jobs-planned =
-      plan-all (HeadWithin (f .used + 1) (f .shows)) (Planned (withPlan f (planned f s z d))) (termsOf f) (busyOf f) (queueOf f s z d)
-      (λ b j l h x. best-planned (withPlan f (planned f s z d)) b j (figures .nodes .1) l h x) (sized .free)
-      (queue-heads f s z d (g .passes) (g .show) (g .size) (g .deadline)) best
+      plan-all (HeadWithin (f .used + 1) (f .shows)) (Planned (withPlan f (planned f o))) (termsOf f) (busyOf f) (queueOf f o)
+      (λ b j l h x. best-planned (withPlan f (planned f o)) b j (figures .nodes .1) l h x) (sized .free)
+      (queue-heads f o g) best
 
-  plan-count : length (planned f s z d) ≡ f .waiting + 1
+  plan-count : length (planned f o) ≡ f .waiting + 1
   plan-count =
-      plan-length (termsOf f) (busyOf f) (queueOf f s z d) ∙ sym (perm-length (by-deadline-perm (waitingOf f ++ newJob f s z d ∷ []))) ∙ length-append (waitingOf f) (newJob f s z d ∷ [])
-      ∙ ap (λ (x : ℕ). x + 1) (length-take-le (f .waiting) (f .jobs) (omega (arith, sized .jobs, g .waiting)))
+      plan-length (termsOf f) (busyOf f) (queueOf f o) ∙ sym (perm-length (by-deadline-perm (waitingOf f ++ newJob f o ∷ []))) ∙ length-append (waitingOf f) (newJob f o ∷ [])
+      ∙ ap (λ (x : ℕ). x + 1) (length-take-le (f .waiting) (f .jobs) (omega (arith, sized .jobs, g .place .0)))
 
-  pub waiting-planned : waitingOf (withPlan f (planned f s z d)) ≡ planned f s z d
-  waiting-planned = take-at (planned f s z d) (drop (f .waiting + 1) (f .jobs)) (f .waiting + 1) plan-count
+  pub waiting-planned : waitingOf (withPlan f (planned f o)) ≡ planned f o
+  waiting-planned = take-at (planned f o) (drop (f .waiting + 1) (f .jobs)) (f .waiting + 1) plan-count
 
   -- An accepted offer hands back a farm with its arrays.
-  pub accepted-sized : Sized (withPlan f (planned f s z d))
+  pub accepted-sized : Sized (withPlan f (planned f o))
   accepted-sized =
       let rest : All JobSized (drop (f .waiting + 1) (f .jobs)) =
       all-append JobSized (take (f .waiting + 1) (f .jobs)) (drop (f .waiting + 1) (f .jobs)) (rw take-append-drop (sized .each)) .1 in
@@ -227,30 +230,30 @@ module _ (f : Farm) (s z d : ℕ) (sized : Sized f) (g : Granted f s z d) (yes�
         allowances = sized .allowances;
         held = sized .held;
         free = sized .free;
-        jobs = omega (arith, length-append (planned f s z d) (drop (f .waiting + 1) (f .jobs)), length-drop (f .waiting + 1) (f .jobs), plan-count, sized .jobs, g .waiting);
-        each = all-join JobSized (planned f s z d) (drop (f .waiting + 1) (f .jobs)) (all-map (λ j h. h .sized) (planned f s z d) jobs-planned) rest;
+        jobs = omega (arith, length-append (planned f o) (drop (f .waiting + 1) (f .jobs)), length-drop (f .waiting + 1) (f .jobs), plan-count, sized .jobs, g .place .0);
+        each = all-join JobSized (planned f o) (drop (f .waiting + 1) (f .jobs)) (all-map (λ j h. h .sized) (planned f o) jobs-planned) rest;
       }
 
-  spans-proper : All (Proper 64) (spansOfAll (f .costs) (planned f s z d))
+  spans-proper : All (Proper 64) (spansOfAll (f .costs) (planned f o))
   spans-proper =
-      spans-all (Proper 64) (f .costs) (planned f s z d)
-      (all-map (λ j h. job-spans (figuresOf (withPlan f (planned f s z d))) j (record { nodes = figures .nodes .1; costs = figures .costs }) (h .within) (h .kept .each)) (planned f s z d) jobs-planned)
+      spans-all (Proper 64) (f .costs) (planned f o)
+      (all-map (λ j h. job-spans (figuresOf (withPlan f (planned f o))) j (record { nodes = figures .nodes .1; costs = figures .costs }) (h .within) (h .kept .each)) (planned f o) jobs-planned)
 
-  chain : Chain (busyOf f) (spansOfAll (f .costs) (planned f s z d))
-  chain = plan-chain (termsOf f) (busyOf f) (queueOf f s z d) best
+  chain : Chain (busyOf f) (spansOfAll (f .costs) (planned f o))
+  chain = plan-chain (termsOf f) (busyOf f) (queueOf f o) best
 
   -- Each job of the plan is behind the farm's free times.
-  jobs-behind : All (Behind (busyOf f)) (planned f s z d)
+  jobs-behind : All (Behind (busyOf f)) (planned f o)
   jobs-behind =
-      let fits = spans-each (Fits (busyOf f)) (f .costs) (planned f s z d) (chain-follows (busyOf f) (spansOfAll (f .costs) (planned f s z d)) (sized .free) spans-proper .0 chain .0) in
-      all-both (λ j h k. fits-behind (busyOf f) (f .costs) j (h .paired) k) (planned f s z d) jobs-planned fits
+      let fits = spans-each (Fits (busyOf f)) (f .costs) (planned f o) (chain-follows (busyOf f) (spansOfAll (f .costs) (planned f o)) (sized .free) spans-proper .0 chain .0) in
+      all-both (λ j h k. fits-behind (busyOf f) (f .costs) j (h .paired) k) (planned f o) jobs-planned fits
 
   -- An accepted offer hands back a farm that passes question 11.
-  pub accepted-passes : Passes (withPlan f (planned f s z d))
+  pub accepted-passes : Passes (withPlan f (planned f o))
   accepted-passes =
       let old = passes-iff f sized .0 (g .passes) in
       let w = old .within in
-      let farm = withPlan f (planned f s z d) in
+      let farm = withPlan f (planned f o) in
       record {
         opened = old .opened;
         within = record {
@@ -262,37 +265,37 @@ module _ (f : Farm) (s z d : ℕ) (sized : Sized f) (g : Granted f s z d) (yes�
           clock = w .clock;
           link = w .link;
           free = w .free;
-          used = omega (arith, g .used);
-          waiting = omega (arith, g .waiting);
+          used = omega (arith, g .place .1);
+          waiting = omega (arith, g .place .0);
         };
-        jobs = subst (All (JobWithin (figuresOf farm))) (sym waiting-planned) (all-map (λ j h. h .within) (planned f s z d) jobs-planned);
+        jobs = subst (All (JobWithin (figuresOf farm))) (sym waiting-planned) (all-map (λ j h. h .within) (planned f o) jobs-planned);
         sound = record {
           jobs = subst (All (JobSound (figuresOf farm) (busyOf farm))) (sym waiting-planned)
-              (all-both (λ j h b. record { clock = h .kept .clock; link = b .0; free = b .1; each = h .kept .each; all = h .kept .all; ends = h .kept .ends }) (planned f s z d) jobs-planned jobs-behind);
-          apart = subst (λ (l : List Job). Pairs Apart (spansOfAll (f .costs) l)) (sym waiting-planned) (chain-apart (busyOf f) (spansOfAll (f .costs) (planned f s z d)) (sized .free) spans-proper chain);
+              (all-both (λ j h b. record { clock = h .kept .clock; link = b .0; free = b .1; each = h .kept .each; all = h .kept .all; ends = h .kept .ends }) (planned f o) jobs-planned jobs-behind);
+          apart = subst (λ (l : List Job). Pairs Apart (spansOfAll (f .costs) l)) (sym waiting-planned) (chain-apart (busyOf f) (spansOfAll (f .costs) (planned f o)) (sized .free) spans-proper chain);
           differ = subst (λ (l : List Job). Differ (map (λ (j : Job). j .number) l)) (sym waiting-planned)
-              (subst Differ (sym (plan-numbers (termsOf f) (busyOf f) (queueOf f s z d))) (queue-differ f s z d old));
+              (subst Differ (sym (plan-numbers (termsOf f) (busyOf f) (queueOf f o))) (queue-differ f o old));
         };
       }
 
 -- ---- Any offer
 
 -- An offer hands back the farm as it was, or the farm with the plan where all questions are answered yes.
-pub offer-cases : (P : Farm → Type 0) (f : Farm) (s z d : ℕ) → P f → (Granted f s z d → accepts f s z d ≡ true → P (withPlan f (planned f s z d))) → P (offerFarm f s z d)
+pub offer-cases : (P : Farm → Type 0) (f : Farm) (o : Offer) → P f → (OfferGranted f o → accepts f o ≡ true → P (withPlan f (planned f o))) → P (offerFarm f o)
 unfolding offerFarm
-offer-cases P f s z d h k = go (eqb (offerAsked f s z d) 0) (accepts f s z d) refl refl
+offer-cases P f o h k = go (eqb (offerAsked f o) 0) (accepts f o) refl refl
   where
-    go : (a b : Bool) → eqb (offerAsked f s z d) 0 ≡ a → accepts f s z d ≡ b → P (cond a (cond b (withPlan f (planned f s z d)) f) f)
-    go true true p q = k (asked-granted f s z d (eqb-true (offerAsked f s z d) 0 p)) q
+    go : (a b : Bool) → eqb (offerAsked f o) 0 ≡ a → accepts f o ≡ b → P (cond a (cond b (withPlan f (planned f o)) f) f)
+    go true true p q = k (offer-granted f o (eqb-true (offerAsked f o) 0 p)) q
     go true false p q = h
     go false b p q = h
 
 -- An offer, accepted or not, hands back a farm with its arrays.
-pub offer-sized : (f : Farm) (s z d : ℕ) → Sized f → Sized (offerFarm f s z d)
-offer-sized f s z d h = offer-cases Sized f s z d h (λ g e. accepted-sized f s z d h g e)
+pub offer-sized : (f : Farm) (o : Offer) → Sized f → Sized (offerFarm f o)
+offer-sized f o h = offer-cases Sized f o h (λ g e. accepted-sized f o h g e)
 
 -- An offer to a farm that passes question 11 hands back a farm that passes it.
-pub offer-passes : (f : Farm) (s z d : ℕ) → Sized f → passesOf f ≡ true → passesOf (offerFarm f s z d) ≡ true
-offer-passes f s z d h e =
-    offer-cases (λ (g : Farm). passesOf g ≡ true) f s z d e
-    (λ g y. passes-iff (withPlan f (planned f s z d)) (accepted-sized f s z d h g y) .1 (accepted-passes f s z d h g y))
+pub offer-passes : (f : Farm) (o : Offer) → Sized f → passesOf f ≡ true → passesOf (offerFarm f o) ≡ true
+offer-passes f o h e =
+    offer-cases (λ (g : Farm). passesOf g ≡ true) f o e
+    (λ g y. passes-iff (withPlan f (planned f o)) (accepted-sized f o h g y) .1 (accepted-passes f o h g y))

@@ -15,12 +15,13 @@ use Rattle.booking.specs.Best.{chosen, units}
 use Rattle.walk.specs.declared.Job.{Job}
 use Rattle.walk.specs.declared.Chunk.{Chunk}
 use Rattle.planner.specs.declared.Farm.{Farm}
-use Rattle.planner.specs.Model.{chunksFrom, linesOf, spansOf, spansOfAll, Sized, byStart, waitingOf, busyOf, termsOf}
+use Rattle.planner.specs.declared.Offer.{Offer}
+use Rattle.planner.specs.Model.{ownCosts, chunksFrom, linesOf, spansOf, spansOfAll, Sized, byStart, waitingOf, busyOf, termsOf}
 use Rattle.planner.specs.Passes.{passesOf}
 use Rattle.walk.specs.Order.{by-start-perm, by-deadline-perm}
 use Rattle.walk.specs.Plan.{plan-numbers}
-use Rattle.planner.specs.Calls.{granted, ofNumber, newJob, queueOf, planned, accepts, withPlan, offerAsked, offerSaid, offerFarm}
-use Rattle.demands.specs.Offers.{Granted, asked-granted}
+use Rattle.planner.specs.Calls.{granted, ofNumber, computeOf, newJob, queueOf, planned, accepts, withPlan, offerAsked, offerSaid, offerFarm}
+use Rattle.planner.specs.OfferSteps.{OfferGranted, offer-granted}
 use Rattle.planner.specs.Clock.{startsBy, begun, linesOfAll, issued, movedFarm, moveAsked, moveSaid, moveFarm, moveMemory}
 use Rattle.demands.specs.CallLists.{Call, offer, move, handed, isGranted, withStart, linesBy, Accepted, jobsBy, planBy, timeBy}
 use Rattle.timetable.specs.Keep.{keep-all}
@@ -38,17 +39,17 @@ pub record Refused (f : Farm) (c : Call) : Type 0 where
   pub time : (u : ℕ) → timeBy f u c ≡ u
 
 -- the job that a granted offer takes
-abbrev pub taken : Farm → ℕ → ℕ → ℕ → Accepted
-taken f s z d = record { number = f .used + 1; show = s; size = z; deadline = d }
+abbrev pub taken : Farm → Offer → Accepted
+taken f o = record { number = f .used + 1; show = o .show; size = o .size; compute = computeOf f o; deadline = o .deadline }
 
 -- a granted offer: the plan replaces the old one
-pub record Takes (f : Farm) (s z d : ℕ) : Type 0 where
-  pub granted : Granted f s z d
-  pub books : accepts f s z d ≡ true
-  pub says : isGranted f (offer s z d) ≡ true
-  pub hands : handed f (offer s z d) ≡ withPlan f (planned f s z d)
-  pub jobs : jobsBy f (offer s z d) ≡ taken f s z d ∷ []
-  pub latest : (js : List Job) → planBy f js (offer s z d) ≡ planned f s z d
+pub record Takes (f : Farm) (o : Offer) : Type 0 where
+  pub granted : OfferGranted f o
+  pub books : accepts f o ≡ true
+  pub says : isGranted f (offer o) ≡ true
+  pub hands : handed f (offer o) ≡ withPlan f (planned f o)
+  pub jobs : jobsBy f (offer o) ≡ taken f o ∷ []
+  pub latest : (js : List Job) → planBy f js (offer o) ≡ planned f o
 
 -- a granted clock move: it issues the chunks of the jobs that start by its time
 pub record Moves (f : Farm) (t : ℕ) (m : List Chunk) : Type 0 where
@@ -60,7 +61,7 @@ pub record Moves (f : Farm) (t : ℕ) (m : List Chunk) : Type 0 where
 
 -- what a call may do
 abbrev pub Outcome : Farm → Call → Type 0
-Outcome f (offer s z d) = Refused f (offer s z d) ⊎ Takes f s z d
+Outcome f (offer o) = Refused f (offer o) ⊎ Takes f o
 Outcome f (move t m) = Refused f (move t m) ⊎ Moves f t m
 
 -- ---- The lines of a job
@@ -87,7 +88,7 @@ started-lines f c (j ∷ js) h = map-join (withStart f) (linesOf c j) (linesOfAl
     one =
         map-same (withStart f) (λ (x : Chunk). record { from = j .booking .start; chunk = x }) (linesOf c j)
         (all-map (λ x e. ap (λ (i : Job). record { from = i .booking .start; chunk = x }) (ap (λ (n : ℕ). ofNumber n (waitingOf f)) (e .0) ∙ h .0)) (linesOf c j)
-        (chunks-named c (j .number) (j .show) (j .booking .start) (chosen (j .booking)) (units (j .booking))))
+        (chunks-named (ownCosts c j) (j .number) (j .show) (j .booking .start) (chosen (j .booking)) (units (j .booking))))
 
 -- The jobs that begin are those of their numbers.
 begun-found : (f : Farm) (t : ℕ) → Sized f → passesOf f ≡ true → All (λ (j : Job). ofNumber (j .number) (waitingOf f) ≡ j) (begun f t)
@@ -111,43 +112,43 @@ move-stays f t m e = record { says = rw (e, e); hands = rw e; lines = rw (e, e);
 
 -- ---- An offer
 
-new-number : (f : Farm) (s z d : ℕ) → ofNumber (f .used + 1) (planned f s z d) .number ≡ f .used + 1
-new-number f s z d =
+new-number : (f : Farm) (o : Offer) → ofNumber (f .used + 1) (planned f o) .number ≡ f .used + 1
+new-number f o =
     let ws = waitingOf f in
-    let j = newJob f s z d in
-    let m : List·Memᴰ j (queueOf f s z d) = perm-mem (List·Permᴰ·trans (List·Permᴰ·append-comm (j ∷ []) ws) (by-deadline-perm (ws ++ j ∷ []))) (List·Memᴰ·head refl) in
-    of-number-found (planned f s z d) (f .used + 1)
-    (subst (List·Memᴰ (f .used + 1)) (sym (plan-numbers (termsOf f) (busyOf f) (queueOf f s z d))) (mem-image numberOfJob m))
+    let j = newJob f o in
+    let m : List·Memᴰ j (queueOf f o) = perm-mem (List·Permᴰ·trans (List·Permᴰ·append-comm (j ∷ []) ws) (by-deadline-perm (ws ++ j ∷ []))) (List·Memᴰ·head refl) in
+    of-number-found (planned f o) (f .used + 1)
+    (subst (List·Memᴰ (f .used + 1)) (sym (plan-numbers (termsOf f) (busyOf f) (queueOf f o))) (mem-image numberOfJob m))
 
-offer-takes : (f : Farm) (s z d : ℕ) → Granted f s z d → eqb (offerAsked f s z d) 0 ≡ true → accepts f s z d ≡ true → Takes f s z d
+offer-takes : (f : Farm) (o : Offer) → OfferGranted f o → eqb (offerAsked f o) 0 ≡ true → accepts f o ≡ true → Takes f o
 unfolding offerSaid offerFarm
-offer-takes f s z d g e b = record {
+offer-takes f o g e b = record {
   granted = g;
   books = b;
   says = rw (e, b);
   hands = rw (e, b);
-  jobs = rw (e, b) (ap (λ (n : ℕ). record { number = n; show = s; size = z; deadline = d } ∷ []) (new-number f s z d));
+  jobs = rw (e, b) (ap (λ (n : ℕ). record { number = n; show = o .show; size = o .size; compute = computeOf f o; deadline = o .deadline } ∷ []) (new-number f o));
   latest = λ js. rw (e, b);
 }
 
-offer-stays : (f : Farm) (s z d : ℕ) → eqb (offerAsked f s z d) 0 ≡ false → Refused f (offer s z d)
+offer-stays : (f : Farm) (o : Offer) → eqb (offerAsked f o) 0 ≡ false → Refused f (offer o)
 unfolding offerSaid offerFarm
-offer-stays f s z d e = record { says = rw (e, e); hands = rw e; lines = refl; jobs = rw (e, e); latest = λ js. rw (e, e); time = λ u. refl }
+offer-stays f o e = record { says = rw (e, e); hands = rw e; lines = refl; jobs = rw (e, e); latest = λ js. rw (e, e); time = λ u. refl }
 
-offer-fails : (f : Farm) (s z d : ℕ) → eqb (offerAsked f s z d) 0 ≡ true → accepts f s z d ≡ false → Refused f (offer s z d)
+offer-fails : (f : Farm) (o : Offer) → eqb (offerAsked f o) 0 ≡ true → accepts f o ≡ false → Refused f (offer o)
 unfolding offerSaid offerFarm
-offer-fails f s z d e b = record { says = rw (e, b); hands = rw (e, b); lines = refl; jobs = rw (e, b); latest = λ js. rw (e, b); time = λ u. refl }
+offer-fails f o e b = record { says = rw (e, b); hands = rw (e, b); lines = refl; jobs = rw (e, b); latest = λ js. rw (e, b); time = λ u. refl }
 
 -- ---- Any call
 
 -- A call is refused, or takes a job, or moves the clock.
 pub outcome : (f : Farm) (c : Call) → Sized f → Outcome f c
-outcome f (offer s z d) k = go (eqb (offerAsked f s z d) 0) (accepts f s z d) refl refl
+outcome f (offer o) k = go (eqb (offerAsked f o) 0) (accepts f o) refl refl
   where
-    go : (a b : Bool) → eqb (offerAsked f s z d) 0 ≡ a → accepts f s z d ≡ b → Refused f (offer s z d) ⊎ Takes f s z d
-    go true true p q = inr (offer-takes f s z d (asked-granted f s z d (eqb-true (offerAsked f s z d) 0 p)) p q)
-    go true false p q = inl (offer-fails f s z d p q)
-    go false b p q = inl (offer-stays f s z d p)
+    go : (a b : Bool) → eqb (offerAsked f o) 0 ≡ a → accepts f o ≡ b → Refused f (offer o) ⊎ Takes f o
+    go true true p q = inr (offer-takes f o (offer-granted f o (eqb-true (offerAsked f o) 0 p)) p q)
+    go true false p q = inl (offer-fails f o p q)
+    go false b p q = inl (offer-stays f o p)
 outcome f (move t m) k = go (eqb (moveAsked f t (length m)) 0) refl
   where
     go : (a : Bool) → eqb (moveAsked f t (length m)) 0 ≡ a → Refused f (move t m) ⊎ Moves f t m

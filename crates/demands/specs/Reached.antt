@@ -44,9 +44,9 @@ reached-call f c r = record {
 -- A call opens no farm and closes none.
 pub handed-opened : (f : Farm) (c : Call) → handed f c .opened ≡ f .opened
 unfolding offerFarm moveFarm
-handed-opened f (offer s z d) = go (eqb (offerAsked f s z d) 0) (accepts f s z d)
+handed-opened f (offer o) = go (eqb (offerAsked f o) 0) (accepts f o)
   where
-    go : (a b : Bool) → cond {A = Farm} a (cond b (withPlan f (planned f s z d)) f) f .opened ≡ f .opened
+    go : (a b : Bool) → cond {A = Farm} a (cond b (withPlan f (planned f o)) f) f .opened ≡ f .opened
     go true true = refl
     go true false = refl
     go false b = refl

@@ -16,7 +16,7 @@ use Rattle.walk.specs.Chain.{Proper}
 use Rattle.walk.specs.Order.{by-start-perm}
 use Rattle.soundness.specs.Sweep.{spans-each}
 use Rattle.planner.specs.declared.Farm.{Farm}
-use Rattle.planner.specs.Model.{greatest, between, chunksFrom, Span, spansOf, spansOfAll, byStart, waitingOf, Sized, Apart}
+use Rattle.planner.specs.Model.{greatest, between, ownCosts, chunksFrom, Span, spansOf, spansOfAll, byStart, waitingOf, Sized, Apart}
 use Rattle.planner.specs.Passes.{passesOf}
 use Rattle.demands.specs.QuestionEleven.{passes-iff}
 use Rattle.planner.specs.Clock.{keep, startsBy, begun, issued, moveAsked}
@@ -38,7 +38,7 @@ first-chunk P c n s f t (k ∷ ks) (u ∷ xs) e h a = (_, (a .0, refl))
 
 first-send : (P : Span → Type 0) (f : Farm) (j : Job) → Waiting f j → All P (spansOf (f .costs) j) → (x : Span) × ((P x × Proper 64 x) × (x .chunk .start ≡ j .booking .start))
 first-send P f j w a =
-    first-chunk (λ (x : Span). P x × Proper 64 x) (f .costs) (j .number) (j .show) (j .booking .start) (j .booking .start) (chosen (j .booking)) (units (j .booking)) (w .paired .0) (omega (arith, w .paired .1))
+    first-chunk (λ (x : Span). P x × Proper 64 x) (ownCosts (f .costs) j) (j .number) (j .show) (j .booking .start) (j .booking .start) (chosen (j .booking)) (units (j .booking)) (w .paired .0) (omega (arith, w .paired .1))
     (all-both (λ x p q. (p, q)) (spansOf (f .costs) j) a (w .proper))
 
 -- Sends that share no tick begin at different ones.

@@ -133,6 +133,13 @@ accountSaid f s =
 
 -- ---- Offer
 
+-- an offer that gives no compute cost, and one that does
+abbrev pub offerOf : ℕ → ℕ → ℕ → Offer
+offerOf s z d = record { show = s; size = z; deadline = d; compute = Absent }
+
+abbrev pub offerWith : ℕ → ℕ → ℕ → ℕ → Offer
+offerWith s z d p = record { show = s; size = z; deadline = d; compute = Given p }
+
 -- the compute cost that is given, otherwise the farm's
 abbrev pub computeOr : ℕ → ComputeCost → ℕ
 computeOr farms Absent = farms
