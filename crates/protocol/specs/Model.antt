@@ -8,6 +8,9 @@ use lib.ListN.{length, getD, drop}
 use Rattle.shares.specs.declared.Costs.{Costs}
 use Rattle.walk.specs.declared.Chunk.{Chunk}
 use Rattle.planner.specs.declared.Farm.{Farm}
+use Rattle.planner.specs.declared.ComputeCost.{ComputeCost}
+use Rattle.planner.specs.declared.ComputeCost.the-variants.{Absent, Given}
+use Rattle.planner.specs.declared.Offer.{Offer}
 use Rattle.planner.specs.Calls.{Said, openSaid, openFarm, offerSaid, offerFarm, accountSaid}
 use Rattle.planner.specs.Clock.{moveSaid, moveFarm, moveLines}
 use Rattle.text.specs.Model.{newline}
@@ -67,12 +70,15 @@ farmLine ns al = record {
   text = answerText (openSaid (getD ns 0 0) (costsIn ns) al);
 }
 
--- `job` show size deadline
-unfoldable pub jobLine : Farm → List ℕ → Answered
-jobLine f ns = record {
-  farm = offerFarm f (getD ns 0 0) (getD ns 1 0) (getD ns 2 0);
-  text = answerText (offerSaid f (getD ns 0 0) (getD ns 1 0) (getD ns 2 0));
-}
+-- `job` show size deadline [p]: of n numbers the fourth, where there is one, is the compute cost
+abbrev pub computeIn : ℕ → List ℕ → ComputeCost
+computeIn n ns = cond (leb n 3) Absent (Given (getD ns 3 0))
+
+abbrev pub offerIn : ℕ → List ℕ → Offer
+offerIn n ns = record { show = getD ns 0 0; size = getD ns 1 0; deadline = getD ns 2 0; compute = computeIn n ns }
+
+unfoldable pub jobLine : Farm → Offer → Answered
+jobLine f o = record { farm = offerFarm f o; text = answerText (offerSaid f o) }
 
 -- the program lends 1,024 chunk records to a clock move
 abbrev pub lent : ℕ
@@ -94,13 +100,13 @@ inTurn kind.Clock opened = opened
 inTurn kind.Account opened = opened
 inTurn kind.Unreadable opened = false
 
--- the call that a line in its turn is, by its kind, its numbers and a farm's allowances
-unfoldable pub called : Farm → Kind → List ℕ → List ℕ → Answered
-called f kind.Farm ns al = farmLine ns al
-called f kind.Job ns al = jobLine f ns
-called f kind.Clock ns al = clockLine f (getD ns 0 0)
-called f kind.Account ns al = accountLine f (getD ns 0 0)
-called f kind.Unreadable ns al = unread f
+-- the call that a line in its turn is, by its kind, its n numbers and a farm's allowances
+unfoldable pub called : Farm → Kind → ℕ → List ℕ → List ℕ → Answered
+called f kind.Farm n ns al = farmLine ns al
+called f kind.Job n ns al = jobLine f (offerIn n ns)
+called f kind.Clock n ns al = clockLine f (getD ns 0 0)
+called f kind.Account n ns al = accountLine f (getD ns 0 0)
+called f kind.Unreadable n ns al = unread f
 
 -- a call out of its turn cannot be read
 abbrev pub ifInTurn : Farm → Kind → Answered → Answered
@@ -108,7 +114,7 @@ ifInTurn f k x = cond (inTurn k (f .opened)) x (unread f)
 
 -- a line of a kind and its numbers
 unfoldable pub recorded : Farm → Kind → List ℕ → Answered
-recorded f k ns = ifInTurn f k (called f k ns (drop 5 ns))
+recorded f k ns = ifInTurn f k (called f k (length ns) ns (drop 5 ns))
 
 -- at most 1,024 bytes before the newline
 abbrev pub longest : ℕ

@@ -8,6 +8,7 @@ use lib.ListN.{length, getD, replicate, length-replicate}
 use Rattle.shares.specs.declared.Costs.{Costs}
 use Rattle.walk.specs.declared.Chunk.{Chunk}
 use Rattle.planner.specs.declared.Farm.{Farm}
+use Rattle.planner.specs.declared.Offer.{Offer}
 use Rattle.planner.specs.Model.{Sized, between, costsWithin}
 use Rattle.planner.specs.Passes.{passesOf}
 use Rattle.planner.specs.Calls.{unopened, showsWithin, openSaid, openFarm, offerFarm}
@@ -18,7 +19,7 @@ use Rattle.text.specs.Model.{newline}
 use Rattle.reading.specs.declared.Kind.{Kind}
 use Rattle.reading.specs.declared.Kind.the-variants as kind
 use Rattle.reading.specs.Model.{lineKind, readable, numbersOf}
-use Rattle.protocol.specs.Model.{Answered, unread, costsIn, farmLine, jobLine, lent, clockLine, accountLine, inTurn, called, recorded, longest, answered, Pending, part, long, ended, kept, Fed, behind, feed}
+use Rattle.protocol.specs.Model.{Answered, unread, costsIn, farmLine, offerIn, jobLine, lent, clockLine, accountLine, inTurn, called, recorded, longest, answered, Pending, part, long, ended, kept, Fed, behind, feed}
 
 -- not opened, or reached by an opening and calls
 abbrev pub Reachable : Farm → Type 0
@@ -53,19 +54,19 @@ call-reachable f c r o = reached-call f c (r (sym (handed-opened f c) ∙ o))
 noChunk : Chunk
 noChunk = record { job = 0; show = 0; node = 0; units = 0; start = 0; sent = 0; finish = 0 }
 
-pub offer-reachable : (f : Farm) (s z d : ℕ) → Reachable f → Reachable (offerFarm f s z d)
-offer-reachable f s z d r = call-reachable f (offer s z d) r
+pub offer-reachable : (f : Farm) (o : Offer) → Reachable f → Reachable (offerFarm f o)
+offer-reachable f o r = call-reachable f (offer o) r
 
 pub move-reachable : (f : Farm) (t n : ℕ) → Reachable f → Reachable (moveFarm f t n)
 move-reachable f t n r = subst (λ (k : ℕ). Reachable (moveFarm f t k)) (length-replicate n noChunk) (call-reachable f (move t (replicate n noChunk)) r)
 
-called-reachable : (f : Farm) (k : Kind) (ns al : List ℕ) → Reachable f → Reachable (called f k ns al .farm)
+called-reachable : (f : Farm) (k : Kind) (n : ℕ) (ns al : List ℕ) → Reachable f → Reachable (called f k n ns al .farm)
 unfolding called farmLine jobLine clockLine accountLine
-called-reachable f kind.Farm ns al r = opening-reachable (getD ns 0 0) (costsIn ns) al
-called-reachable f kind.Job ns al r = offer-reachable f (getD ns 0 0) (getD ns 1 0) (getD ns 2 0) r
-called-reachable f kind.Clock ns al r = move-reachable f (getD ns 0 0) lent r
-called-reachable f kind.Account ns al r = r
-called-reachable f kind.Unreadable ns al r = r
+called-reachable f kind.Farm n ns al r = opening-reachable (getD ns 0 0) (costsIn ns) al
+called-reachable f kind.Job n ns al r = offer-reachable f (offerIn n ns) r
+called-reachable f kind.Clock n ns al r = move-reachable f (getD ns 0 0) lent r
+called-reachable f kind.Account n ns al r = r
+called-reachable f kind.Unreadable n ns al r = r
 
 choice-reachable : (b : Bool) (x y : Answered) → Reachable (x .farm) → Reachable (y .farm) → Reachable (cond b x y .farm)
 choice-reachable true x y p q = p
@@ -76,7 +77,7 @@ pub answered-reachable : (f : Farm) (l : List ℕ) → Reachable f → Reachable
 unfolding answered recorded
 answered-reachable f l r =
     choice-reachable (leb (length l) longest) _ (unread f)
-    (choice-reachable (readable l) _ (unread f) (choice-reachable (inTurn (lineKind l) (f .opened)) _ (unread f) (called-reachable f (lineKind l) (numbersOf l) _ r) r) r) r
+    (choice-reachable (readable l) _ (unread f) (choice-reachable (inTurn (lineKind l) (f .opened)) _ (unread f) (called-reachable f (lineKind l) _ (numbersOf l) _ r) r) r) r
 
 ended-reachable : (f : Farm) (p : Pending) → Reachable f → Reachable (ended f p .farm)
 ended-reachable f (part l) r = answered-reachable f l r

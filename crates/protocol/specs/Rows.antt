@@ -17,7 +17,7 @@ use Rattle.reading.specs.declared.Kind.{Kind}
 use Rattle.reading.specs.declared.Kind.the-variants as kind
 use Rattle.reading.specs.Model.{fields, othersOf, fits, lineKind, readable, allNumbers, numbersOf, rowWith, rowOf}
 use Rattle.protocol.specs.declared.Rest.{Rest}
-use Rattle.protocol.specs.Model.{Answered, unread, farmLine, jobLine, clockLine, accountLine, inTurn, ifInTurn, called, recorded, answered, longest, Pending, part, long, ended}
+use Rattle.protocol.specs.Model.{Answered, unread, farmLine, offerIn, jobLine, clockLine, accountLine, inTurn, ifInTurn, called, recorded, answered, longest, Pending, part, long, ended}
 
 -- ---- Rows
 
@@ -36,7 +36,7 @@ allowancesIn r = take (r .count - 5) (drop 5 (r .numbers))
 
 -- the call that a row in its turn is
 abbrev pub calledBy : Farm → Row → Answered
-calledBy f r = called f (r .kind) (r .numbers) (allowancesIn r)
+calledBy f r = called f (r .kind) (r .count) (r .numbers) (allowancesIn r)
 
 -- the answer of a row
 unfoldable pub byRow : Farm → Row → Answered
@@ -90,9 +90,16 @@ open-farm-33 n c al =
 
 -- ---- The answer of a row is the answer of its line
 
-job-same : (f : Farm) (xs ys : List ℕ) → getD xs 0 0 ≡ getD ys 0 0 → getD xs 1 0 ≡ getD ys 1 0 → getD xs 2 0 ≡ getD ys 2 0 → jobLine f xs ≡ jobLine f ys
-unfolding jobLine
-job-same f xs ys a b c = rw (a, b, c)
+few-same : (m n : ℕ) → 3 < m → leb (min m n) 3 ≡ leb n 3
+few-same m n h = go (leb n 3) refl
+  where
+    go : (t : Bool) → leb n 3 ≡ t → leb (min m n) 3 ≡ t
+    go true e = le-leb (min m n) 3 (omega (arith, leb-true n 3 e))
+    go false e = lt-leb (min m n) 3 (omega (arith, leb-false n 3 e))
+
+offer-same : (ns : List ℕ) → offerIn (min 38 (length ns)) (padded 38 ns) ≡ offerIn (length ns) ns
+offer-same ns =
+    rw (few-same 38 (length ns) (omega arith), kept-at 38 ns 0 (omega arith), kept-at 38 ns 1 (omega arith), kept-at 38 ns 2 (omega arith), kept-at 38 ns 3 (omega arith))
 
 row-allowances : (k : Kind) (ns : List ℕ) → allowancesIn (rowWith k ns) ≡ take 33 (drop 5 ns)
 row-allowances k ns =
@@ -103,10 +110,10 @@ unfolding farmLine
 farm-same k ns =
     rw (row-allowances k ns, kept-at 38 ns 0 (omega arith), kept-at 38 ns 1 (omega arith), kept-at 38 ns 2 (omega arith), kept-at 38 ns 3 (omega arith), kept-at 38 ns 4 (omega arith), open-33, open-farm-33)
 
-row-called : (f : Farm) (k : Kind) (ns : List ℕ) → calledBy f (rowWith k ns) ≡ called f k ns (drop 5 ns)
+row-called : (f : Farm) (k : Kind) (ns : List ℕ) → calledBy f (rowWith k ns) ≡ called f k (length ns) ns (drop 5 ns)
 unfolding called
 row-called f kind.Farm ns = farm-same kind.Farm ns
-row-called f kind.Job ns = job-same f (padded 38 ns) ns (kept-at 38 ns 0 (omega arith)) (kept-at 38 ns 1 (omega arith)) (kept-at 38 ns 2 (omega arith))
+row-called f kind.Job ns = ap (jobLine f) (offer-same ns)
 row-called f kind.Clock ns = ap (clockLine f) (kept-at 38 ns 0 (omega arith))
 row-called f kind.Account ns = ap (accountLine f) (kept-at 38 ns 0 (omega arith))
 row-called f kind.Unreadable ns = refl

@@ -17,6 +17,7 @@ use crate::answer::put_unread;
 use crate::kept::row_of;
 use crate::kept::with_bytes;
 use crate::step::in_turn;
+use crate::step::offered;
 use crate::step::opening;
 use planner::Farm;
 use reading::Kind;
@@ -101,7 +102,7 @@ pub fn answer_block(
                     at = put_answer(out, at, farm.account_unchecked(numbers[0]));
                 }
                 Kind::Job => {
-                    let decision = farm.offer_unchecked(numbers[0], numbers[1], numbers[2]);
+                    let decision = farm.offer_unchecked(offered(row));
                     let answer = decision.answer;
                     at = put_answer(out, at, answer);
                     if decision.accepted {

@@ -8,9 +8,11 @@ use borrow.Author.Tests.{not-true, not-false}
 use lib.ListN.{length, getD}
 use Rattle.text.specs.Writing.{within-same}
 use Rattle.reading.specs.declared.Kind.{Kind}
+use Rattle.planner.specs.declared.Offer.{Offer}
 use Rattle.planner.specs.Calls.{said}
+use Rattle.planner.specs.OfferSteps.{Decides}
 use Rattle.planner.specs.ClockSteps.{Begins, move-refused, move-taken, none-due-yet}
-use Rattle.protocol.specs.Model.{answerText, inTurn, ended, unread, farmLine, jobLine, clockLine, accountLine, called, lent}
+use Rattle.protocol.specs.Model.{answerText, inTurn, ended, unread, farmLine, offerIn, jobLine, clockLine, accountLine, called, lent}
 use Rattle.protocol.specs.Rows.{FarmRow, pendingOf, byRow, allowancesIn, rest-row, row-farm, row-turn, row-unread}
 use Rattle.protocol.specs.Reachable.{reachable-passes, reachable-sized}
 use Rattle.protocol.specs.CallSteps.{clock-plain, rows-asked, rows-fit, clock-text}
@@ -128,26 +130,20 @@ loop-again-2 c =
 enum-told-2 : tie.Need-enum-told-2 Inv-loop μ-loop
 enum-told-2 c = search needs
 
-array-read-offer-unchecked : tie.Need-array-read-offer-unchecked Inv-loop μ-loop
-array-read-offer-unchecked c = search needs
-
-array-read-offer-unchecked-2 : tie.Need-array-read-offer-unchecked-2 Inv-loop μ-loop
-array-read-offer-unchecked-2 c = search needs
-
-array-read-offer-unchecked-3 : tie.Need-array-read-offer-unchecked-3 Inv-loop μ-loop
-array-read-offer-unchecked-3 c = search needs
+offered-requires : tie.Need-offered-requires Inv-loop μ-loop
+offered-requires c κs = search needs
 
 offer-unchecked-requires : tie.Need-offer-unchecked-requires Inv-loop μ-loop
 offer-unchecked-requires c κs =
-    let t = c .before .before .before .before in
-    let l = c .before .before .before .before .before .before .before .before .before .before .before .loop in
-    let s = c .before .before .before .before .before .before .before .before .before .before .before .before .before .before .before .before .before in
-    reachable-passes (l .farm) (day-reachable (l .inv .0) (s .pre)) (subst (λ (k : Kind). inTurn k (l .farm .opened) ≡ true) (c .enum-told2 .given .1) (sym (t .in-turn .ensures) ∙ not-false _ (c .before .before .before .if4 .left)))
+    let t = c .before .before .before .before .before in
+    let l = c .before .before .before .before .before .before .before .before .before .before .before .before .loop in
+    let s = c .before .before .before .before .before .before .before .before .before .before .before .before .before .before .before .before .before .before in
+    reachable-passes (l .farm) (day-reachable (l .inv .0) (s .pre)) (subst (λ (k : Kind). inTurn k (l .farm .opened) ≡ true) (c .before .enum-told2 .given .1) (sym (t .in-turn .ensures) ∙ not-false _ (c .before .before .before .before .if4 .left)))
 
 put-answer-requires-2 : tie.Need-put-answer-requires-2 Inv-loop μ-loop
 put-answer-requires-2 c κs =
-    let l = c .before .before .before .before .before .before .before .before .before .before .before .before .before .loop in
-    omega (arith, l .inv .0 .size, l .inv .1, c .before .before .before .before .before .before .before .before .before .before .before .if2 .left)
+    let l = c .before .before .before .before .before .before .before .before .before .before .before .before .before .before .loop in
+    omega (arith, l .inv .0 .size, l .inv .1, c .before .before .before .before .before .before .before .before .before .before .before .before .if2 .left)
 
 add-farm : tie.Need-add-farm Inv-loop μ-loop
 add-farm c = omega (arith, c .before .before .before .before .before .before .before .offer-unchecked .ensures .accepts (c .before .before .if5 .taken) .2)
@@ -157,22 +153,22 @@ add-farm-2 c = omega (arith, c .before .before .before .before .before .before .
 
 loop-less-3 : tie.Need-loop-less-3 Inv-loop μ-loop
 loop-less-3 c =
-    let t = c .before .before .before .before .before .before .before .before .before .before .before .before .before in
+    let t = c .before .before .before .before .before .before .before .before .before .before .before .before .before .before in
     let e = t .before .before .before .before .find in
     omega (arith, e .ensures .0, e .ensures .1, t .before .before .if3 .left)
 
 loop-again-3 : tie.Need-loop-again-3 Inv-loop μ-loop
 unfolding called jobLine
 loop-again-3 c =
-    let t = c .before .before .before .before .before .before .before .before .before .before .before .before .before in
-    let l = c .before .before .before .before .before .before .before .before .before .before .before .before .before .before .before .before .before .before .before .before .loop in
-    let s = c .before .before .before .before .before .before .before .before .before .before .before .before .before .before .before .before .before .before .before .before .before .before .before .before .before .before in
+    let t = c .before .before .before .before .before .before .before .before .before .before .before .before .before .before in
+    let l = c .before .before .before .before .before .before .before .before .before .before .before .before .before .before .before .before .before .before .before .before .before .loop in
     let e = t .before .before .before .before .find in
     let w = t .before .before .before .with-bytes in
     let o = t .before .row-of in
-    let d = c .before .before .before .before .before .before .before .before .offer-unchecked .ensures in
-    let said : ended (l .farm) (pendingOf (w .result)) ≡ jobLine (l .farm) (o .result .numbers) =
-    rest-row (l .farm) (w .result) ∙ ap (byRow (l .farm)) (sym (o .ensures)) ∙ row-turn (l .farm) (o .result) (sym (t .in-turn .ensures) ∙ not-false _ (c .before .before .before .before .before .before .before .before .before .before .before .before .if4 .left)) ∙ rw (c .before .before .before .before .before .before .before .before .before .enum-told2 .given .1) in (
+    let r = c .before .before .before .before .before .before .before .before .offer-unchecked in
+    let d = subst (λ (x : Offer). Decides (l .farm) x (r .result)) (c .before .before .before .before .before .before .before .before .before .offered .ensures) (r .ensures) in
+    let said : ended (l .farm) (pendingOf (w .result)) ≡ jobLine (l .farm) (offerIn (o .result .count) (o .result .numbers)) =
+    rest-row (l .farm) (w .result) ∙ ap (byRow (l .farm)) (sym (o .ensures)) ∙ row-turn (l .farm) (o .result) (sym (t .in-turn .ensures) ∙ not-false _ (c .before .before .before .before .before .before .before .before .before .before .before .before .before .if4 .left)) ∙ rw (c .before .before .before .before .before .before .before .before .before .before .enum-told2 .given .1) in (
       day-line (l .inv .0) (w .result) (e .ensures .0) (w .ensures) (omega (arith, e .ensures .1, t .before .before .if3 .left)) said (sym (d .accepts (c .before .before .before .if5 .taken) .0)) refl
           (within-same (ap answerText (d .says)) (c .before .before .before .before .before .before .put-answer2 .ensures)) (omega (arith, c .before .before .before .before .before .before .put-answer2 .ensures .within, l .inv .1, t .before .before .before .before .before .if2 .left)),
       l .inv .1,
@@ -180,22 +176,22 @@ loop-again-3 c =
 
 loop-less-4 : tie.Need-loop-less-4 Inv-loop μ-loop
 loop-less-4 c =
-    let t = c .before .before .before .before .before .before .before .before .before .before in
+    let t = c .before .before .before .before .before .before .before .before .before .before .before in
     let e = t .before .before .before .before .find in
     omega (arith, e .ensures .0, e .ensures .1, t .before .before .if3 .left)
 
 loop-again-4 : tie.Need-loop-again-4 Inv-loop μ-loop
 unfolding called jobLine
 loop-again-4 c =
-    let t = c .before .before .before .before .before .before .before .before .before .before in
-    let l = c .before .before .before .before .before .before .before .before .before .before .before .before .before .before .before .before .before .loop in
-    let s = c .before .before .before .before .before .before .before .before .before .before .before .before .before .before .before .before .before .before .before .before .before .before .before in
+    let t = c .before .before .before .before .before .before .before .before .before .before .before in
+    let l = c .before .before .before .before .before .before .before .before .before .before .before .before .before .before .before .before .before .before .loop in
     let e = t .before .before .before .before .find in
     let w = t .before .before .before .with-bytes in
     let o = t .before .row-of in
-    let d = c .before .before .before .before .before .offer-unchecked .ensures in
-    let said : ended (l .farm) (pendingOf (w .result)) ≡ jobLine (l .farm) (o .result .numbers) =
-    rest-row (l .farm) (w .result) ∙ ap (byRow (l .farm)) (sym (o .ensures)) ∙ row-turn (l .farm) (o .result) (sym (t .in-turn .ensures) ∙ not-false _ (c .before .before .before .before .before .before .before .before .before .if4 .left)) ∙ rw (c .before .before .before .before .before .before .enum-told2 .given .1) in (
+    let r = c .before .before .before .before .before .offer-unchecked in
+    let d = subst (λ (x : Offer). Decides (l .farm) x (r .result)) (c .before .before .before .before .before .before .offered .ensures) (r .ensures) in
+    let said : ended (l .farm) (pendingOf (w .result)) ≡ jobLine (l .farm) (offerIn (o .result .count) (o .result .numbers)) =
+    rest-row (l .farm) (w .result) ∙ ap (byRow (l .farm)) (sym (o .ensures)) ∙ row-turn (l .farm) (o .result) (sym (t .in-turn .ensures) ∙ not-false _ (c .before .before .before .before .before .before .before .before .before .before .if4 .left)) ∙ rw (c .before .before .before .before .before .before .before .enum-told2 .given .1) in (
       day-line (l .inv .0) (w .result) (e .ensures .0) (w .ensures) (omega (arith, e .ensures .1, t .before .before .if3 .left)) said (sym (d .refuses (c .if5 .left))) refl
           (within-same (ap answerText (d .says)) (c .before .before .before .put-answer2 .ensures)) (omega (arith, c .before .before .before .put-answer2 .ensures .within, l .inv .1, t .before .before .before .before .before .if2 .left)),
       l .inv .1,
@@ -448,9 +444,7 @@ answer-block-spec =
     loop-less-2
     loop-again-2
     enum-told-2
-    array-read-offer-unchecked
-    array-read-offer-unchecked-2
-    array-read-offer-unchecked-3
+    offered-requires
     offer-unchecked-requires
     put-answer-requires-2
     add-farm
