@@ -44,13 +44,20 @@ struct Day {
     random: Random,
     bytes: Vec<u8>,
     session: Session<Quick>,
+    /// Some offers carry a compute cost.
+    mixed: bool,
 }
+
+/// A number of the greatest length a line may have.
+const LONGEST: u64 = 9_999_999_999_999;
 
 // Writing lines, and looking at what they led to.
 impl Day {
     fn new(seed: u64) -> Self {
+        let mut random = Random::new(seed);
         Day {
-            random: Random::new(seed),
+            mixed: !random.once_in(4),
+            random,
             bytes: Vec::new(),
             session: Session::default(),
         }
@@ -76,8 +83,15 @@ impl Day {
         self.raw(&line);
     }
 
+    /// An offer with some compute cost or none.
     fn job(&mut self, show: u64, size: u64, deadline: u64) {
-        self.line(b"job", &[show, size, deadline]);
+        let compute = self.some_compute();
+        self.job_at(show, size, deadline, compute);
+    }
+
+    fn job_at(&mut self, show: u64, size: u64, deadline: u64, compute: Option<u64>) {
+        let line = job_line(show, size, deadline, compute);
+        self.raw(&line);
     }
 
     fn clock_to(&mut self, time: u64) {
@@ -110,10 +124,15 @@ impl Day {
         self.random.between(1, shows)
     }
 
+    /// The farm's p; any before there is a farm.
+    fn farm_compute(&self) -> u64 {
+        self.session.farm().map_or(9, |farm| farm.costs().compute)
+    }
+
     /// A deadline that is granted while the tick before it is refused.
-    fn least_deadline(&self, show: u64, size: u64) -> Option<u64> {
+    fn least_deadline(&self, show: u64, size: u64, compute: Option<u64>) -> Option<u64> {
         let farm = self.session.farm()?;
-        let granted = |deadline| farm.clone().offer(show, size, deadline).is_ok();
+        let granted = |deadline| farm.clone().offer(show, size, deadline, compute).is_ok();
         let (mut refused, mut least) = (farm.clock(), LAST_TICK);
         if !granted(least) {
             return None;
@@ -149,9 +168,12 @@ impl Day {
             let r = &mut self.random;
             let (size, tens, any) = (r.between(1, 7), r.between(1, 4), r.between(2, 40));
             let wait = r.pick(&[10 * tens, 10 * tens, any]);
+            let deadline = self.clock() / 10 * 10 + wait;
+            let compute = self.tiny_compute();
             match self.random.between(0, 9) {
-                0..=5 => self.job(show, size, self.clock() / 10 * 10 + wait),
-                6 => self.job_at_the_edge(show, size),
+                0 => self.job(show, size, deadline),
+                1..=5 => self.job_at(show, size, deadline, compute),
+                6 => self.job_at_the_edge(show, size, compute),
                 7 => self.clock_near_a_start(),
                 8 => self.clock_to(self.clock() + size),
                 _ => self.line(b"account", &[show]),
@@ -167,7 +189,8 @@ impl Day {
         for _ in 0..self.random.between(5, 25) {
             let show = self.some_show();
             let size = self.random.between(1, 400);
-            self.job_at_the_edge(show, size);
+            let compute = self.some_compute();
+            self.job_at_the_edge(show, size, compute);
             match self.random.between(0, 5) {
                 0 => self.clock_near_a_start(),
                 1 => self.stray(),
@@ -193,11 +216,12 @@ impl Day {
             let show = self.some_show();
             let size = self.near(1, MOST_UNITS);
             let deadline = self.near(1, LAST_TICK);
+            let compute = self.compute_near_limits();
             match self.random.between(0, 11) {
-                0..=4 => self.job(show, size, deadline),
-                5 => self.job(show, size, LAST_TICK),
-                6 => self.job_at_the_edge(show, size),
-                7 => self.job(show, size, self.clock() + size.min(2)),
+                0..=4 => self.job_at(show, size, deadline, compute),
+                5 => self.job_at(show, size, LAST_TICK, compute),
+                6 => self.job_at_the_edge(show, size, compute),
+                7 => self.job_at(show, size, self.clock() + size.min(2), compute),
                 8 => self.clock_near_a_start(),
                 9 => self.clock_to(self.clock() + deadline / 16),
                 10 => self.line(b"account", &[show]),
@@ -216,12 +240,18 @@ impl Day {
         self.open_middling(nodes);
         let horizon = self.random.pick(&[1_000_000, 10_000_000, LAST_TICK / 2]);
         for _ in 0..self.random.between(1, 3) {
-            for _ in 0..MOST_WAITING + 10 - self.waiting() {
+            let mut beyond = 0;
+            // A mixed day refuses more, so not every offer makes the queue longer.
+            for _ in 0..2 * MOST_WAITING {
                 let show = self.some_show();
                 let r = &mut self.random;
                 let wait = r.between(horizon / 2, horizon) / 1_000 * 1_000;
                 let size = r.of_any_length(200).max(1);
                 self.job(show, size, self.clock() + wait);
+                beyond += u64::from(self.waiting() == MOST_WAITING);
+                if beyond == 10 {
+                    break;
+                }
             }
             for _ in 0..self.random.between(1, 12) {
                 self.stray();
@@ -246,9 +276,12 @@ impl Day {
         while left > 0 {
             let size = left.min(nodes);
             left -= size;
-            deadline += size * (costs.link_setup + costs.send) + costs.node_setup + costs.compute;
+            let own = self.random.between(5_000, 20_000);
+            let compute = self.in_half(own);
+            deadline += size * (costs.link_setup + costs.send) + costs.node_setup;
+            deadline += compute.unwrap_or(costs.compute);
             let show = self.some_show();
-            self.job(show, size, deadline);
+            self.job_at(show, size, deadline, compute);
         }
         let starts = self.starts();
         for back in (1..=self.random.place(4) + 1).rev() {
@@ -335,7 +368,10 @@ impl Day {
         match self.random.between(0, 19) {
             0..=5 => self.job(show, size, self.clock() + wait),
             6..=11 => self.job(show, size, self.clock() + backlog + wait),
-            12 => self.job_at_the_edge(show, size),
+            12 => {
+                let compute = self.some_compute();
+                self.job_at_the_edge(show, size, compute);
+            }
             13..=15 => self.clock_near_a_start(),
             16 => self.clock_to(self.clock() + wait / 8),
             17 | 18 => self.line(b"account", &[show]),
@@ -343,16 +379,23 @@ impl Day {
         }
     }
 
-    /// The least deadline granted, and often the tick before it.
-    fn job_at_the_edge(&mut self, show: u64, size: u64) {
-        let Some(deadline) = self.least_deadline(show, size) else {
-            return self.job(show, size, LAST_TICK);
+    /// The least deadline granted, and often the tick before it or a compute
+    /// cost just beside.
+    fn job_at_the_edge(&mut self, show: u64, size: u64, compute: Option<u64>) {
+        let Some(deadline) = self.least_deadline(show, size, compute) else {
+            return self.job_at(show, size, LAST_TICK, compute);
         };
         if self.random.once_in(2) {
-            self.job(show, size, deadline - 1);
+            self.job_at(show, size, deadline - 1, compute);
+        }
+        if self.mixed && self.random.once_in(4) {
+            let compute = compute.unwrap_or(self.farm_compute());
+            let beside = self.random.pick(&[compute - 1, compute + 1, compute + 1]);
+            self.job_at(show, size, deadline, Some(beside));
         }
         let later = self.random.pick(&[0, 0, 0, 1, size]);
-        self.job(show, size, (deadline + later).min(LAST_TICK));
+        let deadline = (deadline + later).min(LAST_TICK);
+        self.job_at(show, size, deadline, compute);
     }
 
     /// A move to the start of a waiting job, or just before or behind it.
@@ -387,20 +430,13 @@ impl Day {
 
     /// A line that is refused, or at least odd.
     fn stray(&mut self) {
-        let show = self.some_show();
-        let shows = self.session.farm().map_or(0, Farm::show_count);
-        let (clock, r) = (self.clock(), &mut self.random);
-        let wrong_show = r.pick(&[0, shows + 1, 33, 9_999_999_999_999]);
-        let wrong_size = r.pick(&[0, MOST_UNITS + 1, 9_999_999_999_999]);
-        let wrong_deadline = r.pick(&[0, clock, LAST_TICK + 1]);
+        let clock = self.clock();
+        let wrong_show = self.wrong_show();
+        let r = &mut self.random;
         let wrong_time = r.pick(&[clock.wrapping_sub(1).min(LAST_TICK + 1), LAST_TICK + 1]);
         match r.between(0, 11) {
-            0 => self.job(wrong_show, 1, LAST_TICK),
-            1 => self.job(show, wrong_size, LAST_TICK),
-            2 => self.job(show, 1, wrong_deadline),
-            3 => self.job(show, MOST_UNITS, clock + 1),
-            4 => self.job(wrong_show, wrong_size, wrong_deadline),
-            5 => self.job(show, wrong_size, wrong_deadline),
+            0..=4 => self.wrong_job(),
+            5 => self.job_too_large(),
             6 => self.clock_to(wrong_time),
             7 => self.clock_to(clock),
             8 => self.line(b"account", &[wrong_show]),
@@ -408,6 +444,46 @@ impl Day {
             10 => self.raw(b""),
             _ => self.damaged_line(),
         }
+    }
+
+    /// One figure wrong or several, so that the order of the questions shows.
+    fn wrong_job(&mut self) {
+        let (mut show, mut size) = (self.some_show(), 1);
+        let (mut deadline, mut compute) = (LAST_TICK, self.some_compute());
+        let [wrong_show, wrong_size, wrong_compute, wrong_deadline] = self.which_wrong();
+        if wrong_show {
+            show = self.wrong_show();
+        }
+        if wrong_size {
+            size = self.random.pick(&[0, MOST_UNITS + 1, LONGEST]);
+        }
+        if wrong_compute && self.mixed {
+            compute = Some(self.wrong_compute());
+        }
+        if wrong_deadline {
+            deadline = self.random.pick(&[0, self.clock(), LAST_TICK + 1]);
+        }
+        self.job_at(show, size, deadline, compute);
+    }
+
+    /// Of four figures one, two, three or all.
+    fn which_wrong(&mut self) -> [bool; 4] {
+        let wrong = self.random.between(1, 15);
+        [1, 2, 4, 8].map(|figure| wrong & figure != 0)
+    }
+
+    fn wrong_show(&mut self) -> u64 {
+        let shows = self.session.farm().map_or(0, Farm::show_count);
+        self.random.pick(&[0, shows + 1, 33, LONGEST])
+    }
+
+    fn wrong_compute(&mut self) -> u64 {
+        self.random.pick(&[0, MOST_COMPUTE_COST + 1, LONGEST])
+    }
+
+    fn job_too_large(&mut self) {
+        let show = self.some_show();
+        self.job(show, MOST_UNITS, self.clock() + 1);
     }
 
     /// Lines that come too early, and openings that fail.
@@ -460,10 +536,58 @@ impl Day {
     }
 }
 
+// Compute costs.
+impl Day {
+    /// Half of the offers of a mixed day carry a compute cost.
+    fn in_half(&mut self, compute: u64) -> Option<u64> {
+        (self.mixed && self.random.once_in(2)).then_some(compute)
+    }
+
+    /// Mostly one that a middling job may bear.
+    fn some_compute(&mut self) -> Option<u64> {
+        let farm = self.farm_compute();
+        let wrong = self.wrong_compute();
+        let r = &mut self.random;
+        let compute = match r.between(0, 19) {
+            0..=4 => r.between(1, 4),
+            5..=7 => farm,
+            8 => farm - 1,
+            9 => farm + 1,
+            10..=12 => r.between(farm - farm / 8, farm + farm / 8),
+            13..=16 => r.between(1, 2 * farm),
+            17 => r.of_any_length(MOST_COMPUTE_COST),
+            18 => r.pick(&[1, MOST_COMPUTE_COST, MOST_COMPUTE_COST - 1]),
+            _ => wrong,
+        };
+        self.in_half(compute)
+    }
+
+    /// So small that the exhaustive walk can wait for the job's end.
+    fn tiny_compute(&mut self) -> Option<u64> {
+        let wrong = self.wrong_compute();
+        let r = &mut self.random;
+        let compute = match r.between(0, 11) {
+            0 => wrong,
+            1 | 2 => 1,
+            3 => r.between(7, 12),
+            _ => r.between(1, 6),
+        };
+        self.in_half(compute)
+    }
+
+    fn compute_near_limits(&mut self) -> Option<u64> {
+        let compute = self.near(1, MOST_COMPUTE_COST);
+        self.in_half(compute)
+    }
+}
+
 // Damage.
 impl Day {
     /// A line with something wrong in it, mostly: some damage is harmless.
     fn damaged_line(&mut self) {
+        if self.mixed && self.random.once_in(4) {
+            return self.odd_compute();
+        }
         let mut line = self.good_line();
         for _ in 0..self.random.pick(&[1, 1, 1, 2, 3]) {
             self.damage(&mut line);
@@ -471,12 +595,42 @@ impl Day {
         self.raw(&line);
     }
 
+    /// Whatever may stand behind the deadline; some of it can be read.
+    fn odd_compute(&mut self) {
+        let show = self.some_show();
+        let mut line = job_line(show, 1, self.clock() + 2_000, None);
+        line.extend_from_slice(self.random.pick(&[
+            b"\t".as_slice(),
+            b"\t\t",
+            b"\t\t7",
+            b"\t7\t",
+            b"\t7\t8",
+            b"\t7\t8\t9",
+            b"\t07",
+            b"\t00",
+            b"\t0000000000007",
+            b"\t00000000000007",
+            b"\t10000000000000",
+            b"\t7a",
+            b"\tp",
+            b"\t+7",
+            b"\t-7",
+            b"\t 7",
+            b"\t7 ",
+            b"\t7\r",
+            b"\t7.0",
+            b" 7",
+        ]));
+        self.raw(&line);
+    }
+
     fn good_line(&mut self) -> Vec<u8> {
         let show = self.some_show();
+        let compute = self.some_compute();
         let time = self.clock() + self.random.between(0, 3);
         match self.random.between(0, 3) {
             0 => farm_line(2, Costs::new(1, 2, 3, 4), &[5, 6]),
-            1 => line(b"job", &[show, 1 + time % 9, time + 1_000]),
+            1 => job_line(show, 1 + time % 9, time + 1_000, compute),
             2 => line(b"clock", &[time]),
             _ => line(b"account", &[show]),
         }
@@ -535,6 +689,11 @@ fn line(kind: &[u8], numbers: &[u64]) -> Vec<u8> {
     text::print(&mut line, kind, numbers);
     line.pop();
     line
+}
+
+fn job_line(show: u64, size: u64, deadline: u64, compute: Option<u64>) -> Vec<u8> {
+    let numbers = [show, size, deadline].into_iter().chain(compute);
+    line(b"job", &numbers.collect::<Vec<u64>>())
 }
 
 fn farm_line(nodes: u64, costs: Costs, allowances: &[u64]) -> Vec<u8> {

@@ -22,7 +22,7 @@ struct Way {
 
 /// The walk's free times.
 struct Course {
-    costs: Costs,
+    farm_costs: Costs,
     clock: u64,
     link_free: u64,
     /// By node, the first at 0.
@@ -52,7 +52,7 @@ impl Course {
         let mut nodes = begun.ranking.row().to_vec();
         nodes.sort_by_key(|node| node.node());
         Course {
-            costs: begun.windows.costs(),
+            farm_costs: begun.windows.costs(),
             clock: begun.clock,
             link_free: begun.link_free,
             node_free: nodes.iter().map(|node| node.time()).collect(),
@@ -66,6 +66,7 @@ impl Course {
     }
 
     fn best_way(&self, job: Job, start: u64) -> Option<Way> {
+        let costs = job.costs(self.farm_costs);
         let mut best: Option<Way> = None;
         for set in 1u64..1 << self.node_free.len() {
             let nodes = self.ranked(set);
@@ -73,7 +74,8 @@ impl Course {
                 continue;
             }
             for_each_share_list(job.size, nodes.len(), &mut Vec::new(), &mut |shares| {
-                let finish = self.finish(start, shares);
+                let spans = spans(costs, start, shares);
+                let finish = spans.map(|(_, finish)| finish).max().unwrap_or(start);
                 let way = Way {
                     node_count: nodes.len(),
                     finish,
@@ -98,26 +100,10 @@ impl Course {
         nodes
     }
 
-    /// The latest chunk finish of a share list.
-    fn finish(&self, start: u64, shares: &[u64]) -> u64 {
-        let spans = self.spans(start, shares);
-        spans.map(|(_, finish)| finish).max().unwrap_or(start)
-    }
-
-    /// Send end and chunk finish of each share, sends back to back.
-    fn spans<'a>(&'a self, start: u64, shares: &'a [u64]) -> impl Iterator<Item = (u64, u64)> + 'a {
-        let costs = &self.costs;
-        shares.iter().scan(start, move |send_end, units| {
-            *send_end += costs.link_setup + units * costs.send;
-            let finish = *send_end + costs.node_setup + units * costs.compute;
-            Some((*send_end, finish))
-        })
-    }
-
     /// Books the job this way and updates the free times.
     fn take(&mut self, job: Job, start: u64, way: &Way, plan: &mut Plan) {
         let shares = &way.shares.0;
-        let spans: Vec<(u64, u64)> = self.spans(start, shares).collect();
+        let spans = spans(job.costs(self.farm_costs), start, shares);
         for ((&units, (send_end, finish)), &(_, node)) in shares.iter().zip(spans).zip(&way.nodes) {
             self.link_free = send_end;
             self.node_free[node as usize - 1] = finish;
@@ -131,6 +117,15 @@ impl Course {
         let nodes = way.node_count;
         plan.bookings.push_back(Booking { job, start, nodes });
     }
+}
+
+/// Send end and chunk finish of each share, sends back to back.
+fn spans(costs: Costs, start: u64, shares: &[u64]) -> impl Iterator<Item = (u64, u64)> + '_ {
+    shares.iter().scan(start, move |send_end, units| {
+        *send_end += costs.link_setup + units * costs.send;
+        let finish = *send_end + costs.node_setup + units * costs.compute;
+        Some((*send_end, finish))
+    })
 }
 
 /// Hands on every list of `places` shares of at least 1 that add up to `size`,

@@ -80,9 +80,18 @@ impl<W: Walk> Farm<W> {
         })
     }
 
-    pub fn offer(&mut self, show: u64, size: u64, deadline: u64) -> Result<Accepted, Refusal> {
+    /// The farm's p serves where the offer gives none.
+    pub fn offer(
+        &mut self,
+        show: u64,
+        size: u64,
+        deadline: u64,
+        own_compute: Option<u64>,
+    ) -> Result<Accepted, Refusal> {
         self.show_place(show)?;
         ask((1..=MOST_UNITS).contains(&size), Refusal::Size)?;
+        let compute = own_compute.unwrap_or(self.costs().compute);
+        ask((1..=MOST_COMPUTE_COST).contains(&compute), Refusal::Costs)?;
         let in_time = self.begun.clock < deadline && deadline <= LAST_TICK;
         ask(in_time, Refusal::Deadline)?;
         let room = self.waiting() < MOST_WAITING && self.numbers_used < MOST_JOB_NUMBERS;
@@ -92,6 +101,7 @@ impl<W: Walk> Farm<W> {
             show,
             size,
             deadline,
+            compute,
         };
         let booked = self.walk.book(&self.begun, &mut self.plan, new);
         ask(booked, Refusal::NotBookable)?;
@@ -171,6 +181,11 @@ impl<W: Walk> Farm<W> {
 
     pub fn show_count(&self) -> u64 {
         self.shows.len() as u64
+    }
+
+    /// The farm's own costs.
+    pub fn costs(&self) -> Costs {
+        self.begun.windows.costs()
     }
 
     pub fn clock(&self) -> u64 {

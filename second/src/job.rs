@@ -1,16 +1,28 @@
 //! Jobs, their bookings, and the plan of the waiting ones.
 
 use crate::node::{FreeNode, Ranking};
-use crate::share::Windows;
+use crate::share::{Costs, Windows};
 use std::collections::VecDeque;
 
-/// A job as its offer gave it.
+/// A job as its acceptance fixed it.
 #[derive(Clone, Copy, Debug, PartialEq, Eq)]
 pub struct Job {
     pub number: u64,
     pub show: u64,
     pub size: u64,
     pub deadline: u64,
+    /// p: the offer's own, or the farm's where it gave none.
+    pub compute: u64,
+}
+
+impl Job {
+    /// The farm's costs with the job's p.
+    pub fn costs(self, farm: Costs) -> Costs {
+        Costs {
+            compute: self.compute,
+            ..farm
+        }
+    }
 }
 
 /// A waiting job with the start and the number of nodes a walk gave it.
@@ -46,6 +58,7 @@ pub struct Record {
 /// What the begun jobs left: where every walk begins.
 #[derive(Clone, Debug)]
 pub struct Begun {
+    /// By the farm's own costs.
     pub windows: Windows,
     pub clock: u64,
     pub link_free: u64,

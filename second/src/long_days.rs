@@ -25,20 +25,37 @@ pub struct LongDay {
     pub name: &'static str,
     pub lines: usize,
     pub bytes: Vec<u8>,
+    /// Some offers carry a compute cost, which earlier builds cannot read.
+    pub own_compute: bool,
 }
 
 /// All long days; each has the same bytes every time.
 pub fn long_days() -> Vec<LongDay> {
     vec![
-        queue_day("loose deadlines, full queue", 6_000, loose_deadline),
-        queue_day("tight deadlines, full queue", 6_000, tight_deadline),
+        queue_day(
+            "loose deadlines, full queue",
+            6_000,
+            no_compute,
+            loose_deadline,
+        ),
+        queue_day(
+            "tight deadlines, full queue",
+            6_000,
+            no_compute,
+            tight_deadline,
+        ),
         short_lines(100_000),
+        queue_day(
+            "mixed compute costs, full queue",
+            6_000,
+            speech_or_music,
+            tight_deadline,
+        ),
     ]
 }
 
 struct Writer {
     random: Random,
-    windows: Windows,
     session: Session<Quick>,
     day: LongDay,
 }
@@ -47,12 +64,12 @@ impl Writer {
     fn new(name: &'static str) -> Self {
         let mut writer = Writer {
             random: Random::new(1),
-            windows: Windows::new(COSTS),
             session: Session::default(),
             day: LongDay {
                 name,
                 lines: 0,
                 bytes: Vec::new(),
+                own_compute: false,
             },
         };
         let costs = [
@@ -74,6 +91,12 @@ impl Writer {
         self.day.lines += 1;
     }
 
+    fn job(&mut self, show: u64, size: u64, deadline: u64, compute: Option<u64>) {
+        let numbers = [show, size, deadline].into_iter().chain(compute);
+        self.line(b"job", &numbers.collect::<Vec<u64>>());
+        self.day.own_compute |= compute.is_some();
+    }
+
     fn starts(&self) -> Vec<u64> {
         let farm = self.session.farm();
         farm.map_or_else(Vec::new, |farm| farm.starts().collect())
@@ -89,7 +112,8 @@ impl Writer {
 fn queue_day(
     name: &'static str,
     lines: usize,
-    deadline: fn(&mut Writer, size: u64) -> u64,
+    compute: fn(&mut Random) -> Option<u64>,
+    deadline: fn(&mut Writer, Costs, size: u64) -> u64,
 ) -> LongDay {
     let mut writer = Writer::new(name);
     while writer.day.lines < lines {
@@ -99,25 +123,41 @@ fn queue_day(
         }
         let show = writer.random.between(1, 8);
         let size = writer.random.between(20, 400);
-        let deadline = deadline(&mut writer, size);
-        writer.line(b"job", &[show, size, deadline]);
+        let own = compute(&mut writer.random);
+        let compute = own.unwrap_or(COSTS.compute);
+        let deadline = deadline(&mut writer, Costs { compute, ..COSTS }, size);
+        writer.job(show, size, deadline, own);
     }
     writer.day
 }
 
+fn no_compute(_: &mut Random) -> Option<u64> {
+    None
+}
+
+/// Half of the jobs have their own: speech is cheaper than what the farm is set
+/// for, music dearer.
+fn speech_or_music(random: &mut Random) -> Option<u64> {
+    match random.between(0, 3) {
+        0 => Some(random.between(60, 140)),
+        1 => Some(random.between(240, 500)),
+        _ => None,
+    }
+}
+
 /// Far enough that a node or two will do.
-fn loose_deadline(writer: &mut Writer, size: u64) -> u64 {
+fn loose_deadline(writer: &mut Writer, _: Costs, size: u64) -> u64 {
     writer.clock() + size * 500 + writer.random.between(300_000, 900_000)
 }
 
 /// Just enough for some number of nodes at the end of the queue, so that most
 /// jobs need several; now and then amid the queue, where a refusal is likely.
-fn tight_deadline(writer: &mut Writer, size: u64) -> u64 {
+fn tight_deadline(writer: &mut Writer, costs: Costs, size: u64) -> u64 {
     let starts = writer.starts();
     let last = starts.last().map_or(writer.clock(), |&start| start);
     let nodes = writer.random.between(4, 64) as usize;
     let nodes = nodes.min(size as usize / 2);
-    let window = writer.windows.least_window(nodes, size, LAST_TICK);
+    let window = Windows::new(costs).least_window(nodes, size, LAST_TICK);
     let start = if writer.random.once_in(4) {
         writer.clock() + (last - writer.clock()) / 2
     } else {

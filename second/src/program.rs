@@ -54,8 +54,8 @@ impl<W: Walk> Session<W> {
                 text::print(answers, b"open", &[nodes, farm.show_count()]);
                 self.farm = Some(farm);
             }
-            (b"job", &[show, size, deadline], Some(farm)) => {
-                let yes = farm.offer(show, size, deadline)?;
+            (b"job", &[show, size, deadline, ref rest @ ..], Some(farm)) if rest.len() <= 1 => {
+                let yes = farm.offer(show, size, deadline, rest.first().copied())?;
                 let fields = [yes.job, yes.start, yes.finish, yes.nodes as u64];
                 text::print(answers, b"yes", &fields);
             }

@@ -4,7 +4,8 @@
 //! jobs after it are booked again. A walk over them would give the same: they
 //! start after the clock, so a later clock takes no start from them and adds
 //! none before, and jobs begin from the front of the plan, so the free times
-//! they meet are the ones they met before.
+//! they meet are the ones they met before. Each is booked by its own costs, so
+//! the new job's make no difference to them.
 
 use crate::job::{Begun, Booking, Chunk, Job, Plan, Walk};
 use crate::node::{FreeNode, MovingRanking};
@@ -56,8 +57,11 @@ impl Quick {
         self.begin(begun, plan, kept_chunks);
         let earlier = plan.bookings.range(kept..place).map(|b| b.job);
         let later = plan.bookings.range(place..).map(|b| b.job);
+        // Worked out again only where a job's costs differ from the last one's.
+        let mut windows = begun.windows;
         for job in earlier.chain(std::iter::once(new)).chain(later) {
-            if !self.book_next(&begun.windows, job) {
+            windows.change(job.costs(begun.windows.costs()));
+            if !self.book_next(&windows, job) {
                 return false;
             }
         }

@@ -3,9 +3,7 @@
 //! It knows nothing of jobs, shows or clocks. All times count from the start
 //! of the window.
 
-use crate::limits::MOST_NODES;
-
-/// The four costs of a farm, in ticks.
+/// Four costs, in ticks.
 #[derive(Clone, Copy, Debug, PartialEq, Eq)]
 pub struct Costs {
     /// m, a unit.
@@ -37,8 +35,8 @@ pub struct Share {
     pub finish: u64,
 }
 
-/// The costs with what is worked out from them once for a farm.
-#[derive(Clone, Debug)]
+/// The costs with what is worked out from them once.
+#[derive(Clone, Copy, Debug)]
 pub struct Windows {
     costs: Costs,
     /// m + p, what one more unit takes of a node's window.
@@ -47,10 +45,14 @@ pub struct Windows {
     setup: u64,
     /// 2^64 / unit rounded up, to divide by multiplying.
     reciprocal: u64,
-    /// For n nodes in fractions: the units that one unit's ticks of window add.
-    reach: [f64; MOST_NODES + 1],
-    /// For n nodes in fractions: the ticks that the link setups take.
-    drag: [f64; MOST_NODES + 1],
+}
+
+/// What a number of nodes would do with fractions of a unit.
+struct Fractions {
+    /// The units that one unit's ticks of window add.
+    reach: f64,
+    /// The ticks that the link setups take.
+    drag: f64,
 }
 
 /// The largest shares in one window, and how far the window can be moved with
@@ -69,20 +71,19 @@ const GUESSES: u32 = 8;
 impl Windows {
     pub fn new(costs: Costs) -> Self {
         let unit = costs.send + costs.compute;
-        let kept = costs.compute as f64 / unit as f64;
-        let mut reach = [0.0; MOST_NODES + 1];
-        let mut drag = [0.0; MOST_NODES + 1];
-        for nodes in 1..=MOST_NODES {
-            reach[nodes] = 1.0 + kept * reach[nodes - 1];
-            drag[nodes] = drag[nodes - 1] + costs.link_setup as f64 * reach[nodes - 1];
-        }
         Windows {
             costs,
             unit,
             setup: costs.link_setup + costs.node_setup,
             reciprocal: u64::MAX / unit + 1,
-            reach,
-            drag,
+        }
+    }
+
+    /// Changes the costs. Where they stay the same nothing is worked out again.
+    #[inline]
+    pub fn change(&mut self, costs: Costs) {
+        if costs != self.costs {
+            *self = Windows::new(costs);
         }
     }
 
@@ -140,10 +141,11 @@ impl Windows {
         if nodes == 1 {
             return self.setup + size * self.unit;
         }
-        let ticks_a_unit = self.unit as f64 / self.reach[nodes];
+        let fractions = self.fractions(nodes);
+        let ticks_a_unit = self.unit as f64 / fractions.reach;
         let mut short = 0;
         let mut enough = enough;
-        let mut guess = self.fraction_window(nodes, size);
+        let mut guess = self.fraction_window(&fractions, size);
         let mut guesses = 0;
         // The answer lies above `short` and is at most `enough`.
         while short + 1 < enough {
@@ -168,9 +170,19 @@ impl Windows {
 
     /// A guess of the least window: the one for shares in fractions, and half
     /// a unit for what rounding down loses on average.
-    fn fraction_window(&self, nodes: usize, size: u64) -> u64 {
-        let ticks = (size * self.unit) as f64 + self.drag[nodes];
-        self.setup + self.unit / 2 + (ticks / self.reach[nodes]) as u64
+    fn fraction_window(&self, fractions: &Fractions, size: u64) -> u64 {
+        let ticks = (size * self.unit) as f64 + fractions.drag;
+        self.setup + self.unit / 2 + (ticks / fractions.reach) as u64
+    }
+
+    /// Each node's share is p / (m + p) of the share before it, less what the
+    /// link setup takes; these are the sums over the nodes.
+    fn fractions(&self, nodes: usize) -> Fractions {
+        let ratio = self.costs.compute as f64 / self.unit as f64;
+        let endless = self.unit as f64 / self.costs.send as f64;
+        let reach = endless * (1.0 - ratio.powi(nodes as i32));
+        let drag = self.costs.link_setup as f64 * endless * (nodes as f64 - reach);
+        Fractions { reach, drag }
     }
 
     fn trial(&self, nodes: usize, window: u64) -> Trial {

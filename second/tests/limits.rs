@@ -18,21 +18,21 @@ const GREATEST: Costs = Costs {
 fn the_greatest_job_at_the_greatest_costs() {
     let mut farm = Farm::<Quick>::open(64, GREATEST, &[LAST_TICK; 32]).unwrap();
     // One node would need 1,010,002,000,000 ticks.
-    let yes = farm.offer(32, MOST_UNITS, LAST_TICK).unwrap();
+    let yes = farm.offer(32, MOST_UNITS, LAST_TICK, None).unwrap();
     assert_eq!((yes.start, yes.nodes), (0, 2));
     let mut one = Farm::<Quick>::open(1, GREATEST, &[0]).unwrap();
     assert_eq!(
-        one.offer(1, MOST_UNITS, LAST_TICK),
+        one.offer(1, MOST_UNITS, LAST_TICK, None),
         Err(Refusal::NotBookable)
     );
-    assert!(one.offer(1, 900_000, LAST_TICK).is_ok());
+    assert!(one.offer(1, 900_000, LAST_TICK, None).is_ok());
 }
 
 #[test]
 fn held_ticks_fill_all_nodes() {
     let mut farm = Farm::<Quick>::open(64, GREATEST, &[7]).unwrap();
     let mut granted = 0;
-    while farm.offer(1, MOST_UNITS, LAST_TICK).is_ok() {
+    while farm.offer(1, MOST_UNITS, LAST_TICK, None).is_ok() {
         granted += 1;
     }
     assert!(granted > 20, "only {granted} jobs granted");
@@ -42,7 +42,7 @@ fn held_ticks_fill_all_nodes() {
     let account = farm.account(1).unwrap();
     assert!(account.held > 30 * LAST_TICK && account.held <= 64 * LAST_TICK);
     assert_eq!(account.charged, account.held - 7);
-    assert_eq!(farm.offer(1, 1, LAST_TICK), Err(Refusal::Deadline));
+    assert_eq!(farm.offer(1, 1, LAST_TICK, None), Err(Refusal::Deadline));
     assert_eq!(farm.move_clock(LAST_TICK, &mut lines), Ok(0));
 }
 
@@ -51,8 +51,11 @@ fn the_least_costs_and_the_last_ticks() {
     let least = Costs::new(1, 1, 0, 0);
     let mut farm = Farm::<Quick>::open(64, least, &[0]).unwrap();
     farm.move_clock(LAST_TICK - 2, &mut []).unwrap();
-    assert_eq!(farm.offer(1, 1, LAST_TICK - 1), Err(Refusal::NotBookable));
-    let yes = farm.offer(1, 1, LAST_TICK).unwrap();
+    assert_eq!(
+        farm.offer(1, 1, LAST_TICK - 1, None),
+        Err(Refusal::NotBookable)
+    );
+    let yes = farm.offer(1, 1, LAST_TICK, None).unwrap();
     assert_eq!((yes.start, yes.finish), (LAST_TICK - 2, LAST_TICK));
     let refused = Err(Refusal::TimetableFull);
     assert_eq!(farm.move_clock(LAST_TICK, &mut []), refused);

@@ -17,13 +17,18 @@ fn answer(line: &[u8]) -> Vec<u8> {
 
 #[test]
 fn another_shape_is_unreadable() {
-    let shapes: [&[u8]; 22] = [
+    let shapes: [&[u8]; 27] = [
         b"",
         b"\t",
         b"job",
         b"job\t1\t1",
-        b"job\t1\t1\t30\t1",
         b"job\t1\t1\t30\t",
+        b"job\t1\t1\t30\t\t1",
+        b"job\t1\t1\t30\t1\t",
+        b"job\t1\t1\t30\t1\t1",
+        b"job\t1\t1\t30\t1p",
+        b"job\t1\t1\t30\t00000000000001",
+        b"job\t1\t1\t30 1",
         b"job\t1\t\t30",
         b"job 1 1 30",
         b"job\t1\t1\t30\r",
@@ -45,6 +50,11 @@ fn another_shape_is_unreadable() {
         assert_eq!(answer(shape), b"no\t11\n", "{}", shape.escape_ascii());
     }
     assert_eq!(answer(b"job\t01\t001\t0000000000030"), b"yes\t1\t0\t3\t1\n");
+    assert_eq!(answer(b"job\t1\t1\t30\t01"), b"yes\t1\t0\t2\t1\n");
+    assert_eq!(
+        answer(b"job\t1\t1\t30\t0000000000001"),
+        b"yes\t1\t0\t2\t1\n"
+    );
 }
 
 #[test]

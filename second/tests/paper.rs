@@ -1,24 +1,14 @@
 //! The paper's listing, its windows A to M, and every refusal.
 
+mod common;
+
+use common::{check, tabs};
 use second::farm::{Accepted, Farm};
 use second::job::Record;
 use second::program::answers;
 use second::quick::Quick;
 use second::refusal::Refusal;
 use second::share::Costs;
-
-/// A space stands for a tab, as in the paper.
-fn tabs(text: &str) -> Vec<u8> {
-    text.replace(' ', "\t").into_bytes()
-}
-
-fn check(day: &str, expected: &str) {
-    let given = answers(&tabs(day));
-    assert_eq!(
-        given.escape_ascii().to_string(),
-        tabs(expected).escape_ascii().to_string()
-    );
-}
 
 const LISTING: &str = "farm 3 1 2 0 0 30 0\njob 1 10 18\njob 2 3 20\njob 2 2 12\n\
     clock 10\naccount 1\naccount 2\n";
@@ -57,11 +47,11 @@ fn windows_a_to_j() {
         let mut farm = open(3, costs);
         let Some((finish, shares)) = expected else {
             let refused = Err(Refusal::NotBookable);
-            assert_eq!(farm.offer(1, size, deadline), refused, "case {case}");
+            assert_eq!(farm.offer(1, size, deadline, None), refused, "case {case}");
             continue;
         };
         let yes = accepted(1, 0, finish, shares.len());
-        assert_eq!(farm.offer(1, size, deadline), Ok(yes), "case {case}");
+        assert_eq!(farm.offer(1, size, deadline, None), Ok(yes), "case {case}");
         let mut lines = [Record::default(); 3];
         let count = farm.show_waiting(&mut lines).unwrap();
         let units: Vec<u64> = lines[..count].iter().map(|line| line.units).collect();
@@ -74,27 +64,33 @@ fn windows_a_to_j() {
 fn case_j_on_all_node_counts() {
     for nodes in 1..=64 {
         let refused = Err(Refusal::NotBookable);
-        assert_eq!(open(nodes, [1, 2, 2, 1]).offer(1, 3, 9), refused);
+        assert_eq!(open(nodes, [1, 2, 2, 1]).offer(1, 3, 9, None), refused);
     }
-    assert!(open(4, [1, 2, 0, 0]).offer(1, 10, 14).is_ok());
+    assert!(open(4, [1, 2, 0, 0]).offer(1, 10, 14, None).is_ok());
 }
 
 /// Case D's second node is free at 14, before the job's finish at 15.
 #[test]
 fn a_node_is_free_at_its_own_finish() {
     let mut farm = open(3, [1, 2, 0, 0]);
-    farm.offer(1, 10, 17).unwrap();
-    assert_eq!(farm.offer(1, 1, 17), Ok(accepted(2, 14, 17, 1)));
+    farm.offer(1, 10, 17, None).unwrap();
+    assert_eq!(farm.offer(1, 1, 17, None), Ok(accepted(2, 14, 17, 1)));
 }
 
 #[test]
 fn windows_k_to_m() {
     let mut farm = open(3, [1, 2, 0, 0]);
-    farm.offer(1, 10, 18).unwrap();
-    farm.offer(1, 3, 20).unwrap();
-    assert_eq!(farm.clone().offer(1, 2, 24), Ok(accepted(3, 18, 24, 1)));
-    assert_eq!(farm.clone().offer(1, 2, 22), Ok(accepted(3, 18, 22, 2)));
-    assert_eq!(farm.offer(1, 2, 21), Err(Refusal::NotBookable));
+    farm.offer(1, 10, 18, None).unwrap();
+    farm.offer(1, 3, 20, None).unwrap();
+    assert_eq!(
+        farm.clone().offer(1, 2, 24, None),
+        Ok(accepted(3, 18, 24, 1))
+    );
+    assert_eq!(
+        farm.clone().offer(1, 2, 22, None),
+        Ok(accepted(3, 18, 22, 2))
+    );
+    assert_eq!(farm.offer(1, 2, 21, None), Err(Refusal::NotBookable));
 }
 
 fn open(nodes: u64, costs: [u64; 4]) -> Farm<Quick> {

@@ -9,7 +9,7 @@ use second::node::FreeNode;
 use second::program::{answers, run};
 use second::quick::Quick;
 use second::random::Random;
-use second::share::Costs;
+use second::share::{Costs, Windows};
 
 #[test]
 fn tiny_days_are_answered_alike() {
@@ -39,8 +39,10 @@ fn tiny_farms_show_the_same_timetables() {
         for _ in 0..14 {
             let size = random.between(1, 6);
             let deadline = quick.clock() + random.between(1, 45);
-            let yes = quick.offer(1, size, deadline);
-            assert_eq!(yes, exhaustive.offer(1, size, deadline));
+            let own = random.between(1, 8);
+            let compute = random.once_in(2).then_some(own);
+            let yes = quick.offer(1, size, deadline, compute);
+            assert_eq!(yes, exhaustive.offer(1, size, deadline, compute));
             granted += u64::from(yes.is_ok());
             assert_eq!(waiting(&quick), waiting(&exhaustive), "seed {seed}");
             if random.once_in(3) {
@@ -79,7 +81,8 @@ impl Walk for Plain {
             let starts = row
                 .iter()
                 .map(|free| free.time().max(begun.clock).max(link_free));
-            let capacity = |nodes, window| begun.windows.capacity(nodes, window) >= job.size;
+            let windows = Windows::new(job.costs(begun.windows.costs()));
+            let capacity = |nodes, window| windows.capacity(nodes, window) >= job.size;
             let fits = |&(nodes, start): &(usize, u64)| {
                 start < job.deadline && capacity(nodes, job.deadline - start)
             };
@@ -87,7 +90,7 @@ impl Walk for Plain {
                 return false;
             };
             let window = halve(job.deadline - start, |window| capacity(nodes, window));
-            for (share, free) in begun.windows.shares(job.size, window).zip(&mut row) {
+            for (share, free) in windows.shares(job.size, window).zip(&mut row) {
                 *free = FreeNode::new(free.node(), start + share.finish);
                 link_free = start + share.send_end;
                 next.chunks.push_back(Chunk {

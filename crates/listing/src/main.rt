@@ -1,7 +1,9 @@
 // The day of document 01's listing, by calls on the farm and with no line read: the opening, its two granted offers, the timetable shown,
 // the clock move and both accounts. Prints an answer a line, its fields parted by tabs; the lines of a timetable come before its answer.
 use planner::Answer;
+use planner::ComputeCost;
 use planner::Farm;
+use planner::Offer;
 use planner::Reply;
 use planner::Timetable;
 use shares::Costs;
@@ -75,6 +77,16 @@ fn put_table(table: Timetable) -> Farm {
     put_reply(reply)
 }
 
+// A job whose compute cost is the farm's.
+fn offered(show: u64, size: u64, deadline: u64) -> Offer {
+    Offer {
+        show,
+        size,
+        deadline,
+        compute: ComputeCost::Absent,
+    }
+}
+
 fn main() {
     let costs = Costs {
         send: 1,
@@ -83,8 +95,8 @@ fn main() {
         nodesetup: 0,
     };
     let opened = put_reply(Farm::open(3, costs, &[30, 0]));
-    let one = put_reply(opened.offer(1, 10, 18));
-    let two = put_reply(one.offer(2, 3, 20));
+    let one = put_reply(opened.offer(offered(1, 10, 18)));
+    let two = put_reply(one.offer(offered(2, 3, 20)));
     let shown = put_table(two.show_by_value([UNUSED; 1024]));
     let moved = put_table(shown.clock_by_value(10, [UNUSED; 1024]));
     let charged = put_reply(moved.account(1));

@@ -11,14 +11,15 @@ use lib.Seq.{take-at}
 use Rattle.lists.specs.Laws.{map-join}
 use Rattle.walk.specs.declared.Chunk.{Chunk}
 use Rattle.planner.specs.declared.Farm.{Farm}
-use Rattle.planner.specs.Calls.{Word, Open, Yes, Clock, Shown, Account, No, Said, granted, heldBy, allowanceOf, refused, openSaid, accountSaid, accepts, offerAsked, offerSaid}
+use Rattle.planner.specs.declared.Offer.{Offer}
+use Rattle.planner.specs.Calls.{Word, Open, Yes, Clock, Shown, Account, No, Said, granted, heldBy, allowanceOf, refused, openSaid, accountSaid, computeOr, accepts, offerAsked, offerSaid}
 use Rattle.planner.specs.Model.{between}
 use Rattle.planner.specs.Passes.{passesOf}
 use Rattle.planner.specs.Clock.{issued, moveAsked, moveSaid, moveFarm, moveMemory, moveLines}
 use Rattle.reading.specs.declared.Kind.{Kind}
 use Rattle.reading.specs.declared.Kind.the-variants as kind
 use Rattle.reading.specs.Model.{lineKind, readable, numbersOf}
-use Rattle.protocol.specs.Model.{refusal, answerText, chunkText, chunkTexts, Answered, unread, costsIn, farmLine, jobLine, lent, clockLine, accountLine, inTurn, called, recorded, longest, answered}
+use Rattle.protocol.specs.Model.{refusal, answerText, chunkText, chunkTexts, Answered, unread, costsIn, farmLine, computeIn, offerIn, jobLine, lent, clockLine, accountLine, inTurn, called, recorded, longest, answered}
 use Rattle.demands.specs.Reached.{handed-opened}
 use Rattle.demands.specs.CallLists.{Call, offer, move, withStart, linesBy, Accepted, jobsBy, History, opening, note, run}
 use Rattle.demands.specs.BegunJobs.{chunkOf}
@@ -34,7 +35,7 @@ blank = record { job = 0; show = 0; node = 0; units = 0; start = 0; sent = 0; fi
 -- the call that a line of a kind and its numbers is once a farm is opened: a `job` line an offer, a `clock` line a move, the others none
 abbrev pub callOf : Kind → List ℕ → List Call
 callOf kind.Farm ns = []
-callOf kind.Job ns = offer (getD ns 0 0) (getD ns 1 0) (getD ns 2 0) ∷ []
+callOf kind.Job ns = offer (offerIn (length ns) ns) ∷ []
 callOf kind.Clock ns = move (getD ns 0 0) (replicate lent blank) ∷ []
 callOf kind.Account ns = []
 callOf kind.Unreadable ns = []
@@ -77,7 +78,7 @@ chunksIn (answer s ∷ ps) = chunksIn ps
 -- what a line of a kind in its turn prints: its answer, and before that of a clock move the lines that it issues
 unfoldable pub calledPrints : Farm → Kind → List ℕ → List ℕ → List Print
 calledPrints f kind.Farm ns al = answer (openSaid (getD ns 0 0) (costsIn ns) al) ∷ []
-calledPrints f kind.Job ns al = answer (offerSaid f (getD ns 0 0) (getD ns 1 0) (getD ns 2 0)) ∷ []
+calledPrints f kind.Job ns al = answer (offerSaid f (offerIn (length ns) ns)) ∷ []
 calledPrints f kind.Clock ns al = map chunk (moveLines f (getD ns 0 0) lent) ++ answer (moveSaid f (getD ns 0 0) lent) ∷ []
 calledPrints f kind.Account ns al = answer (accountSaid f (getD ns 0 0)) ∷ []
 calledPrints f kind.Unreadable ns al = answer (refused 11) ∷ []
@@ -98,24 +99,28 @@ unfoldable pub prints : Farm → List (List ℕ) → List Print
 prints f [] = []
 prints f (l ∷ ls) = linePrints f l ++ prints (answered f l .farm) ls
 
--- the job accepted by an answer to a line with these numbers: a `yes` with its job number, for the show, size and deadline on the line
-abbrev pub acceptedAs : List ℕ → Word → List ℕ → List Accepted
-acceptedAs ns Open vs = []
-acceptedAs ns Yes vs = record { number = getD vs 0 0; show = getD ns 0 0; size = getD ns 1 0; deadline = getD ns 2 0 } ∷ []
-acceptedAs ns Clock vs = []
-acceptedAs ns Shown vs = []
-acceptedAs ns Account vs = []
-acceptedAs ns No vs = []
+-- the job accepted by an answer to a line with these numbers: a `yes` with its job number, for the show, size and deadline on the line, and for the
+-- compute cost on the line or, where there is none, the farm's, p
+abbrev pub acceptedAs : ℕ → List ℕ → Word → List ℕ → List Accepted
+acceptedAs p ns Open vs = []
+acceptedAs p ns Yes vs = record { number = getD vs 0 0; show = getD ns 0 0; size = getD ns 1 0; compute = computeOr p (computeIn (length ns) ns); deadline = getD ns 2 0 } ∷ []
+acceptedAs p ns Clock vs = []
+acceptedAs p ns Shown vs = []
+acceptedAs p ns Account vs = []
+acceptedAs p ns No vs = []
 
-unfoldable pub acceptedOn : List ℕ → List Print → List Accepted
-acceptedOn ns [] = []
-acceptedOn ns (chunk x ∷ ps) = acceptedOn ns ps
-acceptedOn ns (answer s ∷ ps) = acceptedAs ns (s .word) (s .values) ++ acceptedOn ns ps
+unfoldable pub acceptedOn : ℕ → List ℕ → List Print → List Accepted
+acceptedOn p ns [] = []
+acceptedOn p ns (chunk x ∷ ps) = acceptedOn p ns ps
+acceptedOn p ns (answer s ∷ ps) = acceptedAs p ns (s .word) (s .values) ++ acceptedOn p ns ps
 
--- the jobs that lines are told `yes` to
+-- the jobs that a line is told `yes` to, and those that lines are
+abbrev pub acceptedBy : Farm → List ℕ → List Accepted
+acceptedBy f l = acceptedOn (f .costs .compute) (numbersOf l) (linePrints f l)
+
 unfoldable pub acceptedIn : Farm → List (List ℕ) → List Accepted
 acceptedIn f [] = []
-acceptedIn f (l ∷ ls) = acceptedOn (numbersOf l) (linePrints f l) ++ acceptedIn (answered f l .farm) ls
+acceptedIn f (l ∷ ls) = acceptedBy f l ++ acceptedIn (answered f l .farm) ls
 
 -- ---- The farm
 
@@ -128,7 +133,7 @@ run-opened w (c ∷ cs) = run-opened (note w c) cs ∙ handed-opened (w .farm) c
 kind-farm : (w : History) (k : Kind) (ns : List ℕ) → w .farm .opened ≡ true → recorded (w .farm) k ns .farm ≡ run w (callOf k ns) .farm
 unfolding recorded called jobLine clockLine accountLine run
 kind-farm w kind.Farm ns o = ap (λ (b : Bool). cond {A = Answered} (not b) (farmLine ns (drop 5 ns)) (unread (w .farm)) .farm) o
-kind-farm w kind.Job ns o = ap (λ (b : Bool). cond {A = Answered} b (jobLine (w .farm) ns) (unread (w .farm)) .farm) o
+kind-farm w kind.Job ns o = ap (λ (b : Bool). cond {A = Answered} b (jobLine (w .farm) (offerIn (length ns) ns)) (unread (w .farm)) .farm) o
 kind-farm w kind.Clock ns o =
     ap (λ (b : Bool). cond {A = Answered} b (clockLine (w .farm) (getD ns 0 0)) (unread (w .farm)) .farm) o
     ∙ ap (moveFarm (w .farm) (getD ns 0 0)) (sym (length-replicate {A = Chunk} lent blank))
@@ -177,10 +182,10 @@ unread-text : printTexts unreadPrints ≡ refusal 11
 unfolding answerText
 unread-text = texts-one (refused 11)
 
-called-text : (f : Farm) (k : Kind) (ns al : List ℕ) → printTexts (calledPrints f k ns al) ≡ called f k ns al .text
+called-text : (f : Farm) (k : Kind) (ns al : List ℕ) → printTexts (calledPrints f k ns al) ≡ called f k (length ns) ns al .text
 unfolding called calledPrints farmLine jobLine clockLine accountLine
 called-text f kind.Farm ns al = texts-one (openSaid (getD ns 0 0) (costsIn ns) al)
-called-text f kind.Job ns al = texts-one (offerSaid f (getD ns 0 0) (getD ns 1 0) (getD ns 2 0))
+called-text f kind.Job ns al = texts-one (offerSaid f (offerIn (length ns) ns))
 called-text f kind.Clock ns al =
     let t = getD ns 0 0 in
     texts-append (map chunk (moveLines f t lent)) (answer (moveSaid f t lent) ∷ [])
@@ -193,7 +198,7 @@ recorded-text : (f : Farm) (k : Kind) (ns : List ℕ) → printTexts (recordedPr
 unfolding recorded recordedPrints
 recorded-text f k ns = go (inTurn k (f .opened))
   where
-    go : (b : Bool) → printTexts (cond b (calledPrints f k ns (drop 5 ns)) unreadPrints) ≡ cond {A = Answered} b (called f k ns (drop 5 ns)) (unread f) .text
+    go : (b : Bool) → printTexts (cond b (calledPrints f k ns (drop 5 ns)) unreadPrints) ≡ cond {A = Answered} b (called f k (length ns) ns (drop 5 ns)) (unread f) .text
     go true = called-text f k ns (drop 5 ns)
     go false = unread-text
 
@@ -297,72 +302,65 @@ chunks-issued f ls o = chunks-from (opening f) ls o
 
 -- ---- The accepted jobs
 
-accepted-after : (ns : List ℕ) (xs : List Chunk) (s : Said) → acceptedOn ns (map chunk xs ++ answer s ∷ []) ≡ acceptedAs ns (s .word) (s .values)
+accepted-after : (p : ℕ) (ns : List ℕ) (xs : List Chunk) (s : Said) → acceptedOn p ns (map chunk xs ++ answer s ∷ []) ≡ acceptedAs p ns (s .word) (s .values)
 unfolding acceptedOn
-accepted-after ns [] s = append-nil (acceptedAs ns (s .word) (s .values))
-accepted-after ns (x ∷ xs) s = accepted-after ns xs s
+accepted-after p ns [] s = append-nil (acceptedAs p ns (s .word) (s .values))
+accepted-after p ns (x ∷ xs) s = accepted-after p ns xs s
 
-offer-accepted : (f : Farm) (ns : List ℕ)
-    → acceptedOn ns (answer (offerSaid f (getD ns 0 0) (getD ns 1 0) (getD ns 2 0)) ∷ []) ≡ jobsBy f (offer (getD ns 0 0) (getD ns 1 0) (getD ns 2 0))
+offer-accepted : (f : Farm) (ns : List ℕ) → acceptedOn (f .costs .compute) ns (answer (offerSaid f (offerIn (length ns) ns)) ∷ []) ≡ jobsBy f (offer (offerIn (length ns) ns))
 unfolding acceptedOn offerSaid
-offer-accepted f ns = go (eqb (offerAsked f s z d) 0) (accepts f s z d) refl refl
+offer-accepted f ns = go (eqb (offerAsked f o) 0) (accepts f o) refl refl
   where
-    s : ℕ
-    s = getD ns 0 0
+    o : Offer
+    o = offerIn (length ns) ns
 
-    z : ℕ
-    z = getD ns 1 0
-
-    d : ℕ
-    d = getD ns 2 0
-
-    go : (a b : Bool) → eqb (offerAsked f s z d) 0 ≡ a → accepts f s z d ≡ b → acceptedOn ns (answer (offerSaid f s z d) ∷ []) ≡ jobsBy f (offer s z d)
+    go : (a b : Bool) → eqb (offerAsked f o) 0 ≡ a → accepts f o ≡ b → acceptedOn (f .costs .compute) ns (answer (offerSaid f o) ∷ []) ≡ jobsBy f (offer o)
     go true true p q = rw (p, q)
     go true false p q = rw (p, q)
     go false b p q = rw (p, p)
 
-move-accepts-none : (f : Farm) (ns : List ℕ) (t n : ℕ) → acceptedAs ns (moveSaid f t n .word) (moveSaid f t n .values) ≡ []
+move-accepts-none : (f : Farm) (p : ℕ) (ns : List ℕ) (t n : ℕ) → acceptedAs p ns (moveSaid f t n .word) (moveSaid f t n .values) ≡ []
 unfolding moveSaid
-move-accepts-none f ns t n = go (eqb (moveAsked f t n) 0)
+move-accepts-none f p ns t n = go (eqb (moveAsked f t n) 0)
   where
     go : (a : Bool)
-        → acceptedAs ns (cond {A = Said} a (granted Clock (t ∷ length (issued f t) ∷ [])) (refused (moveAsked f t n)) .word) (cond {A = Said} a (granted Clock (t ∷ length (issued f t) ∷ [])) (refused (moveAsked f t n)) .values)
+        → acceptedAs p ns (cond {A = Said} a (granted Clock (t ∷ length (issued f t) ∷ [])) (refused (moveAsked f t n)) .word) (cond {A = Said} a (granted Clock (t ∷ length (issued f t) ∷ [])) (refused (moveAsked f t n)) .values)
         ≡ []
     go true = refl
     go false = refl
 
-account-accepts-none : (f : Farm) (ns : List ℕ) (s : ℕ) → acceptedOn ns (answer (accountSaid f s) ∷ []) ≡ []
+account-accepts-none : (f : Farm) (p : ℕ) (ns : List ℕ) (s : ℕ) → acceptedOn p ns (answer (accountSaid f s) ∷ []) ≡ []
 unfolding acceptedOn accountSaid
-account-accepts-none f ns s = go (passesOf f) (between 1 s (f .shows)) (s ∷ heldBy f s ∷ (heldBy f s - allowanceOf f s) ∷ [])
+account-accepts-none f p ns s = go (passesOf f) (between 1 s (f .shows)) (s ∷ heldBy f s ∷ (heldBy f s - allowanceOf f s) ∷ [])
   where
-    go : (a b : Bool) (vs : List ℕ) → acceptedOn ns (answer (cond {A = Said} a (cond b (granted Account vs) (refused 4)) (refused 11)) ∷ []) ≡ []
+    go : (a b : Bool) (vs : List ℕ) → acceptedOn p ns (answer (cond {A = Said} a (cond b (granted Account vs) (refused 4)) (refused 11)) ∷ []) ≡ []
     go true true vs = refl
     go true false vs = refl
     go false b vs = refl
 
-kind-accepted : (w : History) (k : Kind) (ns : List ℕ) → w .farm .opened ≡ true → w .jobs ++ acceptedOn ns (recordedPrints (w .farm) k ns) ≡ run w (callOf k ns) .jobs
+kind-accepted : (w : History) (k : Kind) (ns : List ℕ) → w .farm .opened ≡ true → w .jobs ++ acceptedOn (w .farm .costs .compute) ns (recordedPrints (w .farm) k ns) ≡ run w (callOf k ns) .jobs
 unfolding recordedPrints calledPrints acceptedOn run
 kind-accepted w kind.Farm ns o =
-    ap (λ (b : Bool). w .jobs ++ acceptedOn ns (cond (not b) (calledPrints (w .farm) kind.Farm ns (drop 5 ns)) unreadPrints)) o ∙ append-nil (w .jobs)
+    ap (λ (b : Bool). w .jobs ++ acceptedOn (w .farm .costs .compute) ns (cond (not b) (calledPrints (w .farm) kind.Farm ns (drop 5 ns)) unreadPrints)) o ∙ append-nil (w .jobs)
 kind-accepted w kind.Job ns o =
-    ap (λ (b : Bool). w .jobs ++ acceptedOn ns (cond b (calledPrints (w .farm) kind.Job ns (drop 5 ns)) unreadPrints)) o
+    ap (λ (b : Bool). w .jobs ++ acceptedOn (w .farm .costs .compute) ns (cond b (calledPrints (w .farm) kind.Job ns (drop 5 ns)) unreadPrints)) o
     ∙ ap (λ (l : List Accepted). w .jobs ++ l) (offer-accepted (w .farm) ns)
 kind-accepted w kind.Clock ns o =
     let t = getD ns 0 0 in
-    ap (λ (b : Bool). w .jobs ++ acceptedOn ns (cond b (calledPrints (w .farm) kind.Clock ns (drop 5 ns)) unreadPrints)) o
+    ap (λ (b : Bool). w .jobs ++ acceptedOn (w .farm .costs .compute) ns (cond b (calledPrints (w .farm) kind.Clock ns (drop 5 ns)) unreadPrints)) o
     ∙ ap (λ (l : List Accepted). w .jobs ++ l)
-    (accepted-after ns (moveLines (w .farm) t lent) (moveSaid (w .farm) t lent) ∙ move-accepts-none (w .farm) ns t lent)
+    (accepted-after (w .farm .costs .compute) ns (moveLines (w .farm) t lent) (moveSaid (w .farm) t lent) ∙ move-accepts-none (w .farm) (w .farm .costs .compute) ns t lent)
 kind-accepted w kind.Account ns o =
-    ap (λ (b : Bool). w .jobs ++ acceptedOn ns (cond b (calledPrints (w .farm) kind.Account ns (drop 5 ns)) unreadPrints)) o
-    ∙ ap (λ (l : List Accepted). w .jobs ++ l) (account-accepts-none (w .farm) ns (getD ns 0 0))
+    ap (λ (b : Bool). w .jobs ++ acceptedOn (w .farm .costs .compute) ns (cond b (calledPrints (w .farm) kind.Account ns (drop 5 ns)) unreadPrints)) o
+    ∙ ap (λ (l : List Accepted). w .jobs ++ l) (account-accepts-none (w .farm) (w .farm .costs .compute) ns (getD ns 0 0))
     ∙ append-nil (w .jobs)
 kind-accepted w kind.Unreadable ns o = append-nil (w .jobs)
 
-line-accepted : (w : History) (l : List ℕ) → w .farm .opened ≡ true → w .jobs ++ acceptedOn (numbersOf l) (linePrints (w .farm) l) ≡ run w (lineCall l) .jobs
+line-accepted : (w : History) (l : List ℕ) → w .farm .opened ≡ true → w .jobs ++ acceptedBy (w .farm) l ≡ run w (lineCall l) .jobs
 unfolding linePrints lineCall run acceptedOn
 line-accepted w l o = go (leb (length l) longest) (readable l)
   where
-    go : (a b : Bool) → w .jobs ++ acceptedOn (numbersOf l) (cond a (cond b (recordedPrints (w .farm) (lineKind l) (numbersOf l)) unreadPrints) unreadPrints)
+    go : (a b : Bool) → w .jobs ++ acceptedOn (w .farm .costs .compute) (numbersOf l) (cond a (cond b (recordedPrints (w .farm) (lineKind l) (numbersOf l)) unreadPrints) unreadPrints)
         ≡ run w (cond {A = List Call} a (cond b (callOf (lineKind l) (numbersOf l)) []) []) .jobs
     go true true = kind-accepted w (lineKind l) (numbersOf l) o
     go true false = append-nil (w .jobs)
@@ -372,7 +370,7 @@ accepted-from : (w : History) (ls : List (List ℕ)) → w .farm .opened ≡ tru
 unfolding acceptedIn callsIn run
 accepted-from w [] o = append-nil (w .jobs)
 accepted-from w (l ∷ ls) o =
-    sym (append-assoc (w .jobs) (acceptedOn (numbersOf l) (linePrints (w .farm) l)) (acceptedIn (answered (w .farm) l .farm) ls))
+    sym (append-assoc (w .jobs) (acceptedBy (w .farm) l) (acceptedIn (answered (w .farm) l .farm) ls))
     ∙ ap (λ (xs : List Accepted). xs ++ acceptedIn (answered (w .farm) l .farm) ls) (line-accepted w l o)
     ∙ ap (λ (g : Farm). run w (lineCall l) .jobs ++ acceptedIn g ls) (line-farm w l o)
     ∙ accepted-from (run w (lineCall l)) ls (run-opened w (lineCall l) ∙ o)

@@ -28,7 +28,7 @@ use Rattle.demands.specs.BegunJobs.{chunkOf}
 use Rattle.demands.specs.Demand1.{open-keeps}
 use Rattle.demands.specs.Demand3.{Issued, Booked, Demand3, demand3}
 use Rattle.printed.specs.Model.{linesIn, answers, dayText}
-use Rattle.printed.specs.DayCalls.{callsIn, farmAfter, Print, answer, printTexts, chunksIn, calledPrints, unreadPrints, recordedPrints, linePrints, prints, acceptedOn, acceptedIn, run-opened, farm-after, answers-text, chunks-append, chunks-issued, jobs-accepted}
+use Rattle.printed.specs.DayCalls.{callsIn, farmAfter, Print, answer, printTexts, chunksIn, calledPrints, unreadPrints, recordedPrints, linePrints, prints, acceptedOn, acceptedBy, acceptedIn, run-opened, farm-after, answers-text, chunks-append, chunks-issued, jobs-accepted}
 
 -- ---- Lines
 
@@ -81,6 +81,8 @@ pub record DayDemand3 (before : List (List ℕ)) (l : List ℕ) (after : List (L
   pub text : answers unopened (before ++ l ∷ after) ≡ printTexts (prints unopened (before ++ l ∷ after))
   -- The farm after them is the farm that the calls leave.
   pub farm : farmAfter unopened (before ++ l ∷ after) ≡ run (opening (farmOn l)) (callsIn after) .farm
+  -- The farm's costs are those on the `farm` line, wherever the others end: its p is the compute cost of a `job` line that gives none.
+  pub costs : (part rest : List (List ℕ)) → after ≡ part ++ rest → farmAfter unopened (before ++ l ∷ part) .costs ≡ costsIn (numbersOf l)
   -- The `chunk` lines printed are the chunks that the calls issue, in order.
   pub chunks : chunksIn (prints unopened (before ++ l ∷ after)) ≡ map chunkOf (run (opening (farmOn l)) (callsIn after) .lines)
   -- The jobs that are told `yes` are the jobs that the calls accept, in order.
@@ -169,29 +171,30 @@ held-printed f cs w d s = held-among s (map chunkOf (w .lines)) (w .lines) (issu
 pub record Keeps (f g : Farm) : Type 0 where
   pub shows : g .shows ≡ f .shows
   pub allowances : g .allowances ≡ f .allowances
+  pub costs : g .costs ≡ f .costs
 
 handed-keeps : (f : Farm) (c : Call) → Keeps f (handed f c)
 unfolding offerFarm moveFarm
-handed-keeps f (offer s z d) = go (eqb (offerAsked f s z d) 0) (accepts f s z d)
+handed-keeps f (offer o) = go (eqb (offerAsked f o) 0) (accepts f o)
   where
-    go : (a b : Bool) → Keeps f (cond {A = Farm} a (cond b (withPlan f (planned f s z d)) f) f)
-    go true true = record { shows = refl; allowances = refl }
-    go true false = record { shows = refl; allowances = refl }
-    go false b = record { shows = refl; allowances = refl }
+    go : (a b : Bool) → Keeps f (cond {A = Farm} a (cond b (withPlan f (planned f o)) f) f)
+    go true true = record { shows = refl; allowances = refl; costs = refl }
+    go true false = record { shows = refl; allowances = refl; costs = refl }
+    go false b = record { shows = refl; allowances = refl; costs = refl }
 handed-keeps f (move t m) = go (eqb (moveAsked f t (length m)) 0)
   where
     go : (a : Bool) → Keeps f (cond {A = Farm} a (movedFarm f t) f)
-    go true = record { shows = refl; allowances = refl }
-    go false = record { shows = refl; allowances = refl }
+    go true = record { shows = refl; allowances = refl; costs = refl }
+    go false = record { shows = refl; allowances = refl; costs = refl }
 
--- The shows and their allowances are those of the opening.
+-- The shows, their allowances and the costs are those of the opening.
 pub run-keeps : (w : History) (cs : List Call) → Keeps (w .farm) (run w cs .farm)
 unfolding run
-run-keeps w [] = record { shows = refl; allowances = refl }
+run-keeps w [] = record { shows = refl; allowances = refl; costs = refl }
 run-keeps w (c ∷ cs) =
     let r = run-keeps (note w c) cs in
     let h = handed-keeps (w .farm) c in
-    record { shows = r .shows ∙ h .shows; allowances = r .allowances ∙ h .allowances }
+    record { shows = r .shows ∙ h .shows; allowances = r .allowances ∙ h .allowances; costs = r .costs ∙ h .costs }
 
 -- ---- A line that can be read
 
@@ -238,6 +241,9 @@ granted-opens n c al = go (between 1 n 64) (costsWithin c) (showsWithin al)
 opens-opened : (l : List ℕ) → Opens l → farmOn l .opened ≡ true
 opens-opened l h = ap (λ (f : Farm). f .opened) (granted-opens (getD (numbersOf l) 0 0) (costsIn (numbersOf l)) (allowancesOn l) (h .granted))
 
+opens-costs : (l : List ℕ) → Opens l → farmOn l .costs ≡ costsIn (numbersOf l)
+opens-costs l h = ap (λ (f : Farm). f .costs) (granted-opens (getD (numbersOf l) 0 0) (costsIn (numbersOf l)) (allowancesOn l) (h .granted))
+
 opens-shows : (l : List ℕ) → Opens l → farmOn l .shows ≡ length (allowancesOn l)
 opens-shows l h = ap (λ (f : Farm). f .shows) (granted-opens (getD (numbersOf l) 0 0) (costsIn (numbersOf l)) (allowancesOn l) (h .granted))
 
@@ -262,7 +268,7 @@ other-stays : (l : List ℕ) (k : Kind) → Reads l k → inTurn k false ≡ fal
 unfolding recorded
 other-stays l k h e =
     ap (λ (x : Answered). x .farm) (answered-read unopened l k h)
-    ∙ ap (λ (b : Bool). cond {A = Answered} b (called unopened k (numbersOf l) (drop 5 (numbersOf l))) (unread unopened) .farm) e
+    ∙ ap (λ (b : Bool). cond {A = Answered} b (called unopened k (length (numbersOf l)) (numbersOf l) (drop 5 (numbersOf l))) (unread unopened) .farm) e
 
 unread-stays : (l : List ℕ) → readable l ≡ false → Stays l
 unfolding answered
@@ -327,8 +333,8 @@ accepted-append : (f : Farm) (xs ys : List (List ℕ)) → acceptedIn f (xs ++ y
 unfolding acceptedIn farmAfter
 accepted-append f [] ys = refl
 accepted-append f (l ∷ xs) ys =
-    ap (λ (js : List Accepted). acceptedOn (numbersOf l) (linePrints f l) ++ js) (accepted-append (answered f l .farm) xs ys)
-    ∙ sym (append-assoc (acceptedOn (numbersOf l) (linePrints f l)) (acceptedIn (answered f l .farm) xs) (acceptedIn (farmAfter (answered f l .farm) xs) ys))
+    ap (λ (js : List Accepted). acceptedBy f l ++ js) (accepted-append (answered f l .farm) xs ys)
+    ∙ sym (append-assoc (acceptedBy f l) (acceptedIn (answered f l .farm) xs) (acceptedIn (farmAfter (answered f l .farm) xs) ys))
 
 -- ---- Before the opening
 
@@ -363,30 +369,30 @@ stays-chunks (l ∷ ls) h =
     ∙ ap (λ (g : Farm). chunksIn (prints g ls)) (h .0)
     ∙ stays-chunks ls (h .1)
 
-open-accepts-none : (n : ℕ) (c : Costs) (al ns : List ℕ) → acceptedOn ns (answer (openSaid n c al) ∷ []) ≡ []
+open-accepts-none : (n : ℕ) (c : Costs) (al : List ℕ) (p : ℕ) (ns : List ℕ) → acceptedOn p ns (answer (openSaid n c al) ∷ []) ≡ []
 unfolding acceptedOn openSaid
-open-accepts-none n c al ns = go (between 1 n 64) (costsWithin c) (showsWithin al)
+open-accepts-none n c al p ns = go (between 1 n 64) (costsWithin c) (showsWithin al)
   where
-    go : (a b d : Bool) → acceptedOn ns (answer (cond {A = Said} a (cond b (cond d (granted Open (n ∷ length al ∷ [])) (refused 3)) (refused 2)) (refused 1)) ∷ []) ≡ []
+    go : (a b d : Bool) → acceptedOn p ns (answer (cond {A = Said} a (cond b (cond d (granted Open (n ∷ length al ∷ [])) (refused 3)) (refused 2)) (refused 1)) ∷ []) ≡ []
     go true true true = refl
     go true true false = refl
     go true false d = refl
     go false b d = refl
 
-unopened-kind-accepts : (k : Kind) (ns : List ℕ) → acceptedOn ns (recordedPrints unopened k ns) ≡ []
+unopened-kind-accepts : (k : Kind) (p : ℕ) (ns : List ℕ) → acceptedOn p ns (recordedPrints unopened k ns) ≡ []
 unfolding recordedPrints calledPrints acceptedOn
-unopened-kind-accepts kind.Farm ns = open-accepts-none (getD ns 0 0) (costsIn ns) (drop 5 ns) ns
-unopened-kind-accepts kind.Job ns = refl
-unopened-kind-accepts kind.Clock ns = refl
-unopened-kind-accepts kind.Account ns = refl
-unopened-kind-accepts kind.Unreadable ns = refl
+unopened-kind-accepts kind.Farm p ns = open-accepts-none (getD ns 0 0) (costsIn ns) (drop 5 ns) p ns
+unopened-kind-accepts kind.Job p ns = refl
+unopened-kind-accepts kind.Clock p ns = refl
+unopened-kind-accepts kind.Account p ns = refl
+unopened-kind-accepts kind.Unreadable p ns = refl
 
-unopened-accepts : (l : List ℕ) → acceptedOn (numbersOf l) (linePrints unopened l) ≡ []
+unopened-accepts : (l : List ℕ) → acceptedBy unopened l ≡ []
 unfolding linePrints acceptedOn
 unopened-accepts l = go (leb (length l) longest) (readable l)
   where
-    go : (a b : Bool) → acceptedOn (numbersOf l) (cond a (cond b (recordedPrints unopened (lineKind l) (numbersOf l)) unreadPrints) unreadPrints) ≡ []
-    go true true = unopened-kind-accepts (lineKind l) (numbersOf l)
+    go : (a b : Bool) → acceptedOn (unopened .costs .compute) (numbersOf l) (cond a (cond b (recordedPrints unopened (lineKind l) (numbersOf l)) unreadPrints) unreadPrints) ≡ []
+    go true true = unopened-kind-accepts (lineKind l) (unopened .costs .compute) (numbersOf l)
     go true false = refl
     go false b = refl
 
@@ -406,6 +412,9 @@ module _ (before : List (List ℕ)) (l : List ℕ) (h : All Stays before) (o : O
       ∙ ap (λ (g : Farm). farmAfter g (l ∷ after)) (stays-farm before h)
       ∙ ap (λ (g : Farm). farmAfter g after) (opens-farm l o)
       ∙ farm-after (farmOn l) after (opens-opened l o)
+
+  lines-costs : (part : List (List ℕ)) → farmAfter unopened (before ++ l ∷ part) .costs ≡ costsIn (numbersOf l)
+  lines-costs part = ap (λ (g : Farm). g .costs) (lines-farm part) ∙ run-keeps (opening (farmOn l)) (callsIn part) .costs ∙ opens-costs l o
 
   lines-chunks : (after : List (List ℕ)) → chunksIn (prints unopened (before ++ l ∷ after)) ≡ map chunkOf (run (opening (farmOn l)) (callsIn after) .lines)
   unfolding prints
@@ -504,6 +513,7 @@ pub day-demand3 : (before : List (List ℕ)) (l : List ℕ) (after : List (List 
 day-demand3 before l after h o = record {
   text = answers-text unopened (before ++ l ∷ after);
   farm = lines-farm before l h o after;
+  costs = λ part rest e. lines-costs before l h o part;
   chunks = lines-chunks before l h o after;
   accepted = lines-accepted before l h o after;
   demand = lines-demand before l h o after;

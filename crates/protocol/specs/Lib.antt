@@ -2,6 +2,7 @@
 pub mod Model
 pub mod Feeding
 pub mod Rows
+pub mod JobLines
 pub mod Promises
 pub mod Reachable
 pub mod PendingLine

@@ -2,8 +2,8 @@
 //! same long days, taking turns, and compares medians of time and peak resident
 //! memory. BEFORE is an earlier build of the program; it takes its turn in the
 //! same run, and the line also says how many times quicker the program is than
-//! that build, and its memory beside that build's. Both must write the same
-//! bytes as `second` and end well.
+//! that build, and its memory beside that build's. It is left out of a day that it
+//! cannot read. Both must write the same bytes as `second` and end well.
 
 use second::long_days::{long_days, LongDay};
 use second::program::answers;
@@ -46,13 +46,14 @@ fn main() -> ExitCode {
 }
 
 fn bench(program: &Path, before: Option<&Path>) -> io::Result<()> {
-    let programs = Programs {
-        program,
-        second: &std::env::current_exe()?.with_file_name("second"),
-        before,
-    };
+    let second = std::env::current_exe()?.with_file_name("second");
     let file = std::env::temp_dir().join(format!("bench-{}.day", std::process::id()));
     for day in long_days() {
+        let programs = Programs {
+            program,
+            second: &second,
+            before: before.filter(|_| !day.own_compute),
+        };
         fs::write(&file, &day.bytes)?;
         let measured =
             check_answers(&programs, &file, &day).and_then(|()| measure(&programs, &file, &day));
