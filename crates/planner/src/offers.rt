@@ -113,19 +113,24 @@ fn ask(farm: Farm, offer: Offer, compute: u64) -> Asked
     requires { ⌜ (passesOf farm ≡ true) × (compute ≡ computeOf farm offer) ⌝ }
     ensures { λ r. ⌜ askedOf r ≡ offerAsked farm offer ⌝ }
 {
-    if !between(1, offer.show, farm.shows as u64) {
+    let known = between(1, offer.show, farm.shows as u64);
+    let sized = between(1, offer.size, 1_000_000);
+    let priced = between(1, compute, 1_000_000);
+    let timely = deadline_within(farm.clock, offer.deadline);
+    let placed = place_left(farm.waiting, farm.used);
+    if !known {
         return Asked::No(Question::Show);
     }
-    if !between(1, offer.size, 1_000_000) {
+    if !sized {
         return Asked::No(Question::Size);
     }
-    if !between(1, compute, 1_000_000) {
+    if !priced {
         return Asked::No(Question::Costs);
     }
-    if !deadline_within(farm.clock, offer.deadline) {
+    if !timely {
         return Asked::No(Question::Deadline);
     }
-    if !place_left(farm.waiting, farm.used) {
+    if !placed {
         return Asked::No(Question::Queue);
     }
     Asked::Yes

@@ -16,78 +16,74 @@ priced p q r e h = sym (h ∙ ap (λ (k : ℕ). between 1 k 1_000_000) e)
 between-requires : tie.Need-between-requires
 between-requires c κs = search needs
 
-returns : tie.Need-returns
-returns c =
-    let s = c .before .before in
-    sym (asked-show (s .args .farm) (s .args .offer) (s .pre .0) (sym (c .before .between .ensures) ∙ not-true _ (c .if1 .taken)))
-
 between-requires-2 : tie.Need-between-requires-2
 between-requires-2 c κs = search needs
-
-returns-2 : tie.Need-returns-2
-returns-2 c =
-    let t = c .before .before in
-    let s = t .before .before in
-    sym (asked-size (s .args .farm) (s .args .offer) (s .pre .0) (sym (t .before .between .ensures) ∙ not-false _ (t .if1 .left)) (sym (c .before .between2 .ensures) ∙ not-true _ (c .if2 .taken)))
 
 between-requires-3 : tie.Need-between-requires-3
 between-requires-3 c κs = search needs
 
-returns-3 : tie.Need-returns-3
-returns-3 c =
-    let u = c .before .before in
-    let t = u .before .before in
-    let s = t .before .before in
-    sym (asked-compute (s .args .farm) (s .args .offer) (s .pre .0) (sym (t .before .between .ensures) ∙ not-false _ (t .if1 .left)) (sym (u .before .between2 .ensures) ∙ not-false _ (u .if2 .left))
-    (priced _ _ _ (s .pre .1) (c .before .between3 .ensures) ∙ not-true _ (c .if3 .taken)))
-
 deadline-within-requires : tie.Need-deadline-within-requires
 deadline-within-requires c κs = search needs
-
-returns-4 : tie.Need-returns-4
-returns-4 c =
-    let v = c .before .before in
-    let u = v .before .before in
-    let t = u .before .before in
-    let s = t .before .before in
-    sym (asked-deadline (s .args .farm) (s .args .offer) (s .pre .0) (sym (t .before .between .ensures) ∙ not-false _ (t .if1 .left)) (sym (u .before .between2 .ensures) ∙ not-false _ (u .if2 .left))
-    (priced _ _ _ (s .pre .1) (v .before .between3 .ensures) ∙ not-false _ (v .if3 .left)) (sym (c .before .deadline-within .ensures) ∙ not-true _ (c .if4 .taken)))
 
 place-left-requires : tie.Need-place-left-requires
 place-left-requires c κs = search needs
 
+returns : tie.Need-returns
+returns c =
+    let t = c .before in
+    let s = t .before .before .before .before .before in
+    sym (asked-show (s .args .farm) (s .args .offer) (s .pre .0) (sym (t .before .before .before .before .between .ensures) ∙ not-true _ (c .if1 .taken)))
+
+returns-2 : tie.Need-returns-2
+returns-2 c =
+    let t = c .before .before in
+    let s = t .before .before .before .before .before in
+    sym (asked-size (s .args .farm) (s .args .offer) (s .pre .0) (sym (t .before .before .before .before .between .ensures) ∙ not-false _ (c .before .if1 .left))
+    (sym (t .before .before .before .between2 .ensures) ∙ not-true _ (c .if2 .taken)))
+
+returns-3 : tie.Need-returns-3
+returns-3 c =
+    let t = c .before .before .before in
+    let s = t .before .before .before .before .before in
+    sym (asked-compute (s .args .farm) (s .args .offer) (s .pre .0) (sym (t .before .before .before .before .between .ensures) ∙ not-false _ (c .before .before .if1 .left))
+    (sym (t .before .before .before .between2 .ensures) ∙ not-false _ (c .before .if2 .left)) (priced _ _ _ (s .pre .1) (t .before .before .between3 .ensures) ∙ not-true _ (c .if3 .taken)))
+
+returns-4 : tie.Need-returns-4
+returns-4 c =
+    let t = c .before .before .before .before in
+    let s = t .before .before .before .before .before in
+    sym (asked-deadline (s .args .farm) (s .args .offer) (s .pre .0) (sym (t .before .before .before .before .between .ensures) ∙ not-false _ (c .before .before .before .if1 .left))
+    (sym (t .before .before .before .between2 .ensures) ∙ not-false _ (c .before .before .if2 .left)) (priced _ _ _ (s .pre .1) (t .before .before .between3 .ensures) ∙ not-false _ (c .before .if3 .left))
+    (sym (t .before .deadline-within .ensures) ∙ not-true _ (c .if4 .taken)))
+
 returns-5 : tie.Need-returns-5
 returns-5 c =
-    let w = c .before .before in
-    let v = w .before .before in
-    let u = v .before .before in
-    let t = u .before .before in
-    let s = t .before .before in
-    sym (asked-queue (s .args .farm) (s .args .offer) (s .pre .0) (sym (t .before .between .ensures) ∙ not-false _ (t .if1 .left)) (sym (u .before .between2 .ensures) ∙ not-false _ (u .if2 .left))
-    (priced _ _ _ (s .pre .1) (v .before .between3 .ensures) ∙ not-false _ (v .if3 .left)) (sym (w .before .deadline-within .ensures) ∙ not-false _ (w .if4 .left)) (sym (c .before .place-left .ensures) ∙ not-true _ (c .if5 .taken)))
+    let t = c .before .before .before .before .before in
+    let s = t .before .before .before .before .before in
+    sym (asked-queue (s .args .farm) (s .args .offer) (s .pre .0) (sym (t .before .before .before .before .between .ensures) ∙ not-false _ (c .before .before .before .before .if1 .left))
+    (sym (t .before .before .before .between2 .ensures) ∙ not-false _ (c .before .before .before .if2 .left)) (priced _ _ _ (s .pre .1) (t .before .before .between3 .ensures) ∙ not-false _ (c .before .before .if3 .left))
+    (sym (t .before .deadline-within .ensures) ∙ not-false _ (c .before .if4 .left)) (sym (t .place-left .ensures) ∙ not-true _ (c .if5 .taken)))
 
 returns-6 : tie.Need-returns-6
 returns-6 c =
-    let w = c .before .before in
-    let v = w .before .before in
-    let u = v .before .before in
-    let t = u .before .before in
-    let s = t .before .before in
-    sym (asked-all (s .args .farm) (s .args .offer) (s .pre .0) (sym (t .before .between .ensures) ∙ not-false _ (t .if1 .left)) (sym (u .before .between2 .ensures) ∙ not-false _ (u .if2 .left))
-    (priced _ _ _ (s .pre .1) (v .before .between3 .ensures) ∙ not-false _ (v .if3 .left)) (sym (w .before .deadline-within .ensures) ∙ not-false _ (w .if4 .left)) (sym (c .before .place-left .ensures) ∙ not-false _ (c .if5 .left)))
+    let t = c .before .before .before .before .before in
+    let s = t .before .before .before .before .before in
+    sym (asked-all (s .args .farm) (s .args .offer) (s .pre .0) (sym (t .before .before .before .before .between .ensures) ∙ not-false _ (c .before .before .before .before .if1 .left))
+    (sym (t .before .before .before .between2 .ensures) ∙ not-false _ (c .before .before .before .if2 .left)) (priced _ _ _ (s .pre .1) (t .before .before .between3 .ensures) ∙ not-false _ (c .before .before .if3 .left))
+    (sym (t .before .deadline-within .ensures) ∙ not-false _ (c .before .if4 .left)) (sym (t .place-left .ensures) ∙ not-false _ (c .if5 .left)))
 
 pub ask-spec : {M : Type 1} → statement M
 ask-spec =
     tie.close
     (tie.spec
     between-requires
-    returns
     between-requires-2
-    returns-2
     between-requires-3
-    returns-3
     deadline-within-requires
-    returns-4
     place-left-requires
+    returns
+    returns-2
+    returns-3
+    returns-4
     returns-5
     returns-6)
