@@ -136,8 +136,8 @@ abbrev pub acceptedOf : Job → Accepted
 acceptedOf j = record { number = j .number; show = j .show; size = j .size; compute = j .compute; deadline = j .deadline }
 
 -- the costs that it was accepted with: the farm's, with its compute cost
-abbrev pub costsOf : Costs → Accepted → Costs
-costsOf c x = withCompute c (x .compute)
+abbrev pub acceptedCosts : Costs → Accepted → Costs
+acceptedCosts c x = withCompute c (x .compute)
 
 -- chunks that do what was accepted: of its number and show, some units each, adding up to its size, sent and finished as its costs make it, ending by
 -- its deadline
@@ -145,8 +145,8 @@ pub record Fulfils (c : Costs) (x : Accepted) (ls : List Chunk) : Type 0 where
   pub named : All (λ (y : Chunk). (y .job ≡ x .number) × (y .show ≡ x .show)) ls
   pub each : All (λ (y : Chunk). 1 ≤ y .units) ls
   pub all : unitsIn ls ≡ x .size
-  pub sent : All (λ (y : Chunk). y .sent ≡ sendEnd (costsOf c x) (y .start) (y .units)) ls
-  pub finish : All (λ (y : Chunk). y .finish ≡ chunkFinish (costsOf c x) (y .start) (y .units)) ls
+  pub sent : All (λ (y : Chunk). y .sent ≡ sendEnd (acceptedCosts c x) (y .start) (y .units)) ls
+  pub finish : All (λ (y : Chunk). y .finish ≡ chunkFinish (acceptedCosts c x) (y .start) (y .units)) ls
   pub ends : All (λ (y : Chunk). y .finish ≤ x .deadline) ls
 
 -- every one of these chunks has as its job's start the send start of the first

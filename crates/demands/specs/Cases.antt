@@ -1,4 +1,5 @@
--- Cases A to M of document 01, "Windows to try", as one table and one theorem about the model. The checker works each row out.
+-- Cases A to M of document 01, "Windows to try", and cases of a job's own compute cost, each a table and a theorem about the model. The checker works
+-- each row out.
 use Prim.Native.Nat.{ℕ, _+_}
 use mathlib.Core.Path.{_≡_, refl}
 use mathlib.Core.List.{List, [], _∷_}
@@ -14,7 +15,7 @@ use Rattle.planner.specs.declared.Offer.{Offer}
 use Rattle.limits.specs.Model.{allAtMost, allAtLeast, costsWithin}
 use Rattle.planner.specs.Model.{chunksFrom, spansOfAll, afters, waitingOf, keysBy, plan, booksAll, fitAll}
 use Rattle.planner.specs.Passes.{countsWithin, timesWithin, waitingPass, passesOf}
-use Rattle.planner.specs.Calls.{Yes, Said, granted, refused, openFarm, ofNumber, offerOf, offerAsked, offerSaid, offerFarm}
+use Rattle.planner.specs.Calls.{Yes, Said, granted, refused, openFarm, ofNumber, offerOf, offerWith, offerAsked, offerSaid, offerFarm}
 
 -- what comes of an offer: the answer, and the shares of the new job in the farm that is handed back (none where it is refused)
 pub record Outcome : Type 0 where
@@ -116,7 +117,49 @@ cases =
     ∷ afterListing 21 (no 8)
     ∷ []
 
+-- A job's own compute cost, document 02 (i): the farm of case A with a job of cost p, ..
+abbrev pub aloneAt : ℕ → ℕ → ℕ → Outcome → Row
+aloneAt p z w e = record {
+  nodes = 64;
+  costs = costsOf 1 2 0 0;
+  allowances = 0 ∷ [];
+  before = [];
+  offer = offerWith 1 z w p;
+  expected = e;
+}
+
+-- .. and a job of 2 units by 6 with a cost of p on two nodes, where a job of 2 units by 11 waits
+abbrev pub beforeAnother : ℕ → Outcome → Row
+beforeAnother p e = record {
+  nodes = 2;
+  costs = costsOf 1 4 0 0;
+  allowances = 0 ∷ [];
+  before = offerOf 1 2 11 ∷ [];
+  offer = offerWith 1 2 6 p;
+  expected = e;
+}
+
+abbrev pub ownCases : List Row
+ownCases =
+    -- one node in 20 ticks at a cost of 1, where case A takes 30; at the farm's cost, case C
+    aloneAt 1 10 20 (yes 1 0 20 1 (10 ∷ []))
+    ∷ aloneAt 2 10 18 (yes 1 0 18 2 (6 ∷ 4 ∷ []))
+    -- a cheaper job is refused where a dearer one is taken: at 2 it takes node 1 to 6, and the other has too little time on what is left; at 3 it takes
+    -- both nodes to 5, and the other follows on both
+    ∷ beforeAnother 2 (no 8)
+    ∷ beforeAnother 3 (yes 2 0 5 2 (1 ∷ 1 ∷ []))
+    ∷ beforeAnother 4 (no 8)
+    -- outside the limits
+    ∷ beforeAnother 0 (no 2)
+    ∷ beforeAnother 1_000_001 (no 2)
+    ∷ []
+
 -- every row comes out as expected
 pub cases-right : All Right cases
 unfolding run offered outcome openFarm offerAsked offerSaid offerFarm ofNumber passesOf countsWithin timesWithin waitingPass costsWithin allAtMost allAtLeast jobsPass jobPasses jobWithin jobKept sharesKept noneOf allDiffer fitAll spansOfAll chunksFrom afters keysBy plan booksAll noLater insertKey sortOnto nodeKeys ranked search bookingOf bookedAt bookOf finish sum first left capacity cut greedy earliest
 cases-right = (refl, (refl, (refl, (refl, (refl, (refl, (refl, (refl, (refl, (refl, (refl, (refl, (refl, tt)))))))))))))
+
+-- so does every row of a job's own compute cost
+pub own-cases-right : All Right ownCases
+unfolding run offered outcome openFarm offerAsked offerSaid offerFarm ofNumber passesOf countsWithin timesWithin waitingPass costsWithin allAtMost allAtLeast jobsPass jobPasses jobWithin jobKept sharesKept noneOf allDiffer fitAll spansOfAll chunksFrom afters keysBy plan booksAll noLater insertKey sortOnto nodeKeys ranked search bookingOf bookedAt bookOf finish sum first left capacity cut greedy earliest
+own-cases-right = (refl, (refl, (refl, (refl, (refl, (refl, (refl, tt)))))))

@@ -1,5 +1,5 @@
 -- Opening, offers and accounts, question by question: what the functions of src/calls.rt need and promise each other.
-use mathlib.Core.Path.{_≡_, ap, sym, _∙_}
+use mathlib.Core.Path.{_≡_, refl, ap, sym, _∙_}
 use mathlib.Core.List.{List, [], _∷_, _++_}
 use mathlib.Core.Bool.{true, false, _&&_}
 use Prim.Native.Nat.{ℕ, suc, _+_, _-_, _≤_, _<_}
@@ -20,11 +20,28 @@ use Rattle.planner.specs.declared.Farm.{Farm}
 use Rattle.planner.specs.declared.Offer.{Offer}
 use Rattle.planner.specs.declared.Reply.{Reply}
 use Rattle.planner.specs.declared.Question.{Question}
+use Rattle.planner.specs.declared.Question.the-variants as question
 use Rattle.planner.specs.declared.Answer.the-variants as answer
 use Rattle.planner.specs.Model.{greatest, between, costsWithin, waitingOf, termsOf, busyOf, byDeadline}
 use Rattle.planner.specs.Passes.{passesOf}
 use Rattle.planner.specs.PassesSteps.{passes-within, passes-jobs}
 use Rattle.planner.specs.Calls.{Account, said, granted, refused, numberOf, Replies, unopened, openedWith, showsWithin, openSaid, openFarm, heldBy, allowanceOf, accountSaid, computeOf, offerAsked, offerSaid, offerFarm}
+
+-- ---- Questions
+
+-- No question has the number 0, which stands for a granted call.
+pub no-number : (q : Question) → eqb (numberOf q) 0 ≡ false
+no-number question.Nodes = refl
+no-number question.Costs = refl
+no-number question.Shows = refl
+no-number question.Show = refl
+no-number question.Size = refl
+no-number question.Deadline = refl
+no-number question.Queue = refl
+no-number question.Walk = refl
+no-number question.Time = refl
+no-number question.Lines = refl
+no-number question.Farm = refl
 
 -- ---- Opening
 

@@ -23,7 +23,6 @@ use Rattle.walk.specs.BestWalk.{walk-best}
 use Rattle.planner.specs.declared.Farm.{Farm}
 use Rattle.planner.specs.declared.Offer.{Offer}
 use Rattle.planner.specs.declared.Question.{Question}
-use Rattle.planner.specs.declared.Question.the-variants as question
 use Rattle.planner.specs.declared.Answer.the-variants as answer
 use Rattle.planner.specs.declared.Decision.{Decision}
 use Rattle.planner.specs.declared.offers.Asked.{Asked}
@@ -32,7 +31,7 @@ use Rattle.planner.specs.Model.{greatest, between, Between, noJob, waiti
 use Rattle.planner.specs.Passes.{passesOf}
 use Rattle.planner.specs.Calls.{said, refused, numberOf, computeOf, newJob, accepts, nextFarm, ofNumber, yesOf, offerAsked, offerSaid, offerFarm}
 use Rattle.planner.specs.PassesSteps.{passes-within, passes-jobs}
-use Rattle.planner.specs.CallsSteps.{Offered, walk-ready, deadline-is, place-is}
+use Rattle.planner.specs.CallsSteps.{no-number, Offered, walk-ready, deadline-is, place-is}
 
 -- the number of the question that was answered no, 0 where none was
 abbrev pub askedOf : Asked → ℕ
@@ -161,25 +160,12 @@ pub record Decides (f : Farm) (o : Offer) (r : Decision) : Type 0 where
   pub accepts : r .accepted ≡ true → (offerFarm f o ≡ nextFarm f (r .jobs)) × (f .waiting < 128) × (f .used < greatest)
   pub refuses : r .accepted ≡ false → offerFarm f o ≡ f
 
-no-zero : (q : Question) → numberOf q ≡ 0 → ⊥
-no-zero question.Nodes h = omega arith
-no-zero question.Costs h = omega arith
-no-zero question.Shows h = omega arith
-no-zero question.Show h = omega arith
-no-zero question.Size h = omega arith
-no-zero question.Deadline h = omega arith
-no-zero question.Queue h = omega arith
-no-zero question.Walk h = omega arith
-no-zero question.Time h = omega arith
-no-zero question.Lines h = omega arith
-no-zero question.Farm h = omega arith
-
 module _ (f : Farm) (o : Offer) where
   -- A question before the walk stops it.
   pub decides-no : (q : Question) (js : List Job) → numberOf q ≡ offerAsked f o → Decides f o (record { accepted = false; answer = answer.No q; jobs = js })
   unfolding offerSaid offerFarm
   decides-no q js e =
-      let n : eqb (offerAsked f o) 0 ≡ false = ne-eqb (offerAsked f o) 0 (λ h. no-zero q (e ∙ h)) in
+      let n : eqb (offerAsked f o) 0 ≡ false = ap (λ (k : ℕ). eqb k 0) (sym e) ∙ no-number q in
       record { says = rw (n, e); accepts = λ h. absurd (false≢true h); refuses = λ h. rw n }
 
   -- Past those, the walk decides it.

@@ -10,11 +10,10 @@ use lib.ListN.{length, getD, take, length-map}
 use lib.Seq.{take-at, take-suc}
 use Rattle.walk.specs.declared.Chunk.{Chunk}
 use Rattle.timetable.specs.Model.{rowOf}
-use Rattle.planner.specs.declared.Question.{Question}
 use Rattle.planner.specs.declared.Answer.{Answer}
-use Rattle.planner.specs.declared.Question.the-variants as question
 use Rattle.planner.specs.declared.Answer.the-variants as answer
-use Rattle.planner.specs.Calls.{Said, said, numberOf}
+use Rattle.planner.specs.Calls.{Said, said}
+use Rattle.planner.specs.CallsSteps.{no-number}
 use Rattle.text.specs.Model.{padded}
 use Rattle.text.specs.Writing.{WroteWithin, wrote-same, wrote-join}
 use Rattle.printing.specs.declared.Line.{Line}
@@ -33,19 +32,6 @@ lineWith s =
 
 abbrev pub textOf : Line → List ℕ
 textOf l = lineText (l .word) (take (l .count) (l .numbers))
-
-pub no-number : (q : Question) → eqb (numberOf q) 0 ≡ false
-no-number question.Nodes = refl
-no-number question.Costs = refl
-no-number question.Shows = refl
-no-number question.Show = refl
-no-number question.Size = refl
-no-number question.Deadline = refl
-no-number question.Queue = refl
-no-number question.Walk = refl
-no-number question.Time = refl
-no-number question.Lines = refl
-no-number question.Farm = refl
 
 pub line-text : (a : Answer) → textOf (lineWith (said a)) ≡ answerText (said a)
 unfolding lineWith answerText

@@ -1,6 +1,7 @@
 -- `protocol::answer::line_of` meets its contract.
 use borrow.Author.Needs.{needs}
-use Rattle.protocol.specs.AnswerLines.{lineWith, no-number}
+use Rattle.planner.specs.CallsSteps.{no-number}
+use Rattle.protocol.specs.AnswerLines.{lineWith}
 use Rattle.protocol.proofs.answer.line_of.Statement.{statement}
 use Rattle.protocol.proofs.answer.line_of.Tie as tie
 
