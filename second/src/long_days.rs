@@ -25,8 +25,6 @@ pub struct LongDay {
     pub name: &'static str,
     pub lines: usize,
     pub bytes: Vec<u8>,
-    /// Some offers carry a compute cost, which earlier builds cannot read.
-    pub own_compute: bool,
 }
 
 /// All long days; each has the same bytes every time.
@@ -69,7 +67,6 @@ impl Writer {
                 name,
                 lines: 0,
                 bytes: Vec::new(),
-                own_compute: false,
             },
         };
         let costs = [
@@ -94,7 +91,6 @@ impl Writer {
     fn job(&mut self, show: u64, size: u64, deadline: u64, compute: Option<u64>) {
         let numbers = [show, size, deadline].into_iter().chain(compute);
         self.line(b"job", &numbers.collect::<Vec<u64>>());
-        self.day.own_compute |= compute.is_some();
     }
 
     fn starts(&self) -> Vec<u64> {

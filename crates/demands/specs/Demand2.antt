@@ -27,9 +27,9 @@ use Rattle.planner.specs.declared.Farm.{Farm}
 use Rattle.planner.specs.declared.Offer.{Offer}
 use Rattle.planner.specs.Model.{Sized, waitingOf, busyOf, termsOf, deadlineOf, requestOf, step}
 use Rattle.planner.specs.PassesSteps.{passes-within, passes-jobs}
-use Rattle.planner.specs.Calls.{Said, refused, newJob, queueOf, planned, accepts, withPlan, offerAsked, offerSaid, offerFarm}
+use Rattle.planner.specs.Calls.{Said, refused, newJob, queueOf, planned, accepts, withPlan, offerAsked, offerSaid, offerFarm, OfferGranted}
 use Rattle.planner.specs.CallsSteps.{walk-ready}
-use Rattle.planner.specs.OfferSteps.{OfferGranted, offer-granted, offer-offered}
+use Rattle.planner.specs.OfferSteps.{offer-granted, offer-offered}
 use Rattle.demands.specs.Offers.{offer-stopped, granted-asked, offer-is}
 use Rattle.demands.specs.OfferPasses.{waiting-planned}
 

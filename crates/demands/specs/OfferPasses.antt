@@ -21,7 +21,7 @@ use Rattle.planner.specs.declared.Farm.{Farm}
 use Rattle.planner.specs.declared.Offer.{Offer}
 use Rattle.planner.specs.Model.{greatest, between, allAtMost, costsWithin, emptyJob, ownCosts, spansOfAll, JobSized, Sized, after, waitingOf, busyOf, termsOf, requestOf, step, Apart, Between}
 use Rattle.planner.specs.Passes.{figuresOf, passesOf, JobWithin, JobSound, Within, Passes}
-use Rattle.planner.specs.Calls.{unopened, openedWith, showsWithin, openFarm, newJob, queueOf, planned, accepts, withPlan, offerAsked, offerFarm}
+use Rattle.planner.specs.Calls.{unopened, openedWith, showsWithin, openFarm, newJob, queueOf, planned, accepts, withPlan, offerAsked, offerFarm, OfferGranted}
 use Rattle.walk.specs.Chain.{Fits, Chain, Proper, chain-follows, chain-apart}
 use Rattle.walk.specs.Order.{by-deadline-perm}
 use Rattle.limits.specs.Says.{says-costs, says-at-most, between-is}
@@ -34,7 +34,7 @@ use Rattle.walk.specs.WalkSteps.{best-sends}
 use Rattle.walk.specs.BestWalk.{BestAll, walk-best}
 use Rattle.walk.specs.Plan.{plan-chain, plan-all, plan-numbers, plan-length}
 use Rattle.planner.specs.CallsSteps.{walk-ready}
-use Rattle.planner.specs.OfferSteps.{OfferGranted, offer-granted, offer-offered}
+use Rattle.planner.specs.OfferSteps.{offer-granted, offer-offered}
 
 -- ---- An opening
 

@@ -13,9 +13,9 @@ use Rattle.walk.specs.BestWalk.{BestAll, Fails, walk-is}
 use Rattle.planner.specs.declared.Farm.{Farm}
 use Rattle.planner.specs.declared.Offer.{Offer}
 use Rattle.planner.specs.Model.{greatest, termsOf, busyOf}
-use Rattle.planner.specs.Calls.{refused, offerOf, offerWith, computeOf, newJob, queueOf, planned, accepts, withPlan, offerAsked, offerSaid, offerFarm}
+use Rattle.planner.specs.Calls.{refused, offerOf, offerWith, computeOf, newJob, queueOf, planned, accepts, withPlan, offerAsked, offerSaid, offerFarm, OfferGranted}
 use Rattle.planner.specs.CallsSteps.{asked-all, walk-ready}
-use Rattle.planner.specs.OfferSteps.{OfferGranted, offer-granted, offer-offered}
+use Rattle.planner.specs.OfferSteps.{offer-granted, offer-offered}
 
 -- An offer that does not pass questions 11, 4, 5, 2, 6 and 7 is refused with the number of the first answered no, and the farm is as it was.
 pub offer-stopped : (f : Farm) (o : Offer) (n : ℕ) → offerAsked f o ≡ suc n → (offerSaid f o ≡ refused (suc n)) × (offerFarm f o ≡ f)

@@ -20,8 +20,8 @@ use Rattle.planner.specs.Model.{ownCosts, chunksFrom, linesOf, spansOf, spansOf
 use Rattle.planner.specs.Passes.{passesOf}
 use Rattle.walk.specs.Order.{by-start-perm, by-deadline-perm}
 use Rattle.walk.specs.Plan.{plan-numbers}
-use Rattle.planner.specs.Calls.{granted, ofNumber, computeOf, newJob, queueOf, planned, accepts, withPlan, offerAsked, offerSaid, offerFarm}
-use Rattle.planner.specs.OfferSteps.{OfferGranted, offer-granted}
+use Rattle.planner.specs.Calls.{granted, ofNumber, computeOf, newJob, queueOf, planned, accepts, withPlan, offerAsked, offerSaid, offerFarm, OfferGranted}
+use Rattle.planner.specs.OfferSteps.{offer-granted}
 use Rattle.planner.specs.Clock.{startsBy, begun, linesOfAll, issued, movedFarm, moveAsked, moveSaid, moveFarm, moveMemory}
 use Rattle.demands.specs.CallLists.{Call, offer, move, handed, isGranted, withStart, linesBy, Accepted, jobsBy, planBy, timeBy}
 use Rattle.timetable.specs.Keep.{keep-all}

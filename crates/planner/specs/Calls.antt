@@ -1,5 +1,5 @@
 -- The calls: what each answers, with the paper's number and values, and the farm that it hands back.
-use Prim.Native.Nat.{ℕ, _+_, _-_}
+use Prim.Native.Nat.{ℕ, _+_, _-_, _≤_, _<_}
 use mathlib.Core.List.{List, [], _∷_, _++_}
 use mathlib.Core.Bool.{Bool, true, false, cond, _&&_}
 use mathlib.Core.Path.{_≡_}
@@ -17,7 +17,7 @@ use Rattle.planner.specs.declared.Question.{Question}
 use Rattle.planner.specs.declared.Answer.{Answer}
 use Rattle.planner.specs.declared.Question.the-variants as question
 use Rattle.planner.specs.declared.Answer.the-variants as answer
-use Rattle.planner.specs.Model.{greatest, between, allAtMost, costsWithin, emptyJob, finishOf, waitingOf, termsOf, busyOf, byDeadline, plan, booksAll}
+use Rattle.planner.specs.Model.{greatest, between, Between, allAtMost, costsWithin, emptyJob, finishOf, waitingOf, termsOf, busyOf, byDeadline, plan, booksAll}
 use Rattle.planner.specs.Passes.{passesOf}
 
 -- ---- Answers
@@ -208,6 +208,15 @@ offerAsked f o =
     5)
     4)
     11
+
+-- what they ask, all answered yes
+pub record OfferGranted (f : Farm) (o : Offer) : Type 0 where
+  pub passes : passesOf f ≡ true
+  pub show : Between 1 (o .show) (f .shows)
+  pub size : Between 1 (o .size) 1_000_000
+  pub compute : Between 1 (computeOf f o) 1_000_000
+  pub deadline : (f .clock < o .deadline) × (o .deadline ≤ greatest)
+  pub place : (f .waiting < 128) × (f .used < greatest)
 
 -- past those, question 8: does the walk book them all?
 unfoldable pub offerSaid : Farm → Offer → Said

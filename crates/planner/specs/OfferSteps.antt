@@ -2,7 +2,7 @@
 use mathlib.Core.Path.{_≡_, refl, ap, sym, subst, _∙_}
 use mathlib.Core.List.{List, [], _∷_, _++_}
 use mathlib.Core.Bool.{Bool, true, false, cond, _&&_, false≢true}
-use Prim.Native.Nat.{ℕ, zero, suc, _+_, _≤_, _<_}
+use Prim.Native.Nat.{ℕ, zero, suc, _+_, _<_}
 use native.Mathlib.Omega.{arith}
 use borrow.Author.Tests.{eq-eqb, ne-eqb}
 use lib.Dec.{leb, ltb, eqb}
@@ -27,9 +27,9 @@ use Rattle.planner.specs.declared.Answer.the-variants as answer
 use Rattle.planner.specs.declared.Decision.{Decision}
 use Rattle.planner.specs.declared.offers.Asked.{Asked}
 use Rattle.planner.specs.declared.offers.Asked.the-variants as asked
-use Rattle.planner.specs.Model.{greatest, between, Between, noJob, waitingOf, termsOf, busyOf, busyAfter, byDeadline, plan, booksAll}
+use Rattle.planner.specs.Model.{greatest, between, noJob, waitingOf, termsOf, busyOf, busyAfter, byDeadline, plan, booksAll}
 use Rattle.planner.specs.Passes.{passesOf}
-use Rattle.planner.specs.Calls.{said, refused, numberOf, computeOf, newJob, accepts, nextFarm, ofNumber, yesOf, offerAsked, offerSaid, offerFarm}
+use Rattle.planner.specs.Calls.{said, refused, numberOf, computeOf, OfferGranted, newJob, accepts, nextFarm, ofNumber, yesOf, offerAsked, offerSaid, offerFarm}
 use Rattle.planner.specs.PassesSteps.{passes-within, passes-jobs}
 use Rattle.planner.specs.CallsSteps.{no-number, Offered, walk-ready, deadline-is, place-is}
 
@@ -37,15 +37,6 @@ use Rattle.planner.specs.CallsSteps.{no-number, Offered, walk-ready, dea
 abbrev pub askedOf : Asked → ℕ
 askedOf asked.Yes = 0
 askedOf (asked.No q) = numberOf q
-
--- what an offer's questions before the walk ask, all answered yes
-pub record OfferGranted (f : Farm) (o : Offer) : Type 0 where
-  pub passes : passesOf f ≡ true
-  pub show : Between 1 (o .show) (f .shows)
-  pub size : Between 1 (o .size) 1_000_000
-  pub compute : Between 1 (computeOf f o) 1_000_000
-  pub deadline : (f .clock < o .deadline) × (o .deadline ≤ greatest)
-  pub place : (f .waiting < 128) × (f .used < greatest)
 
 asked-yes : (a b c p d e : Bool) → _≡_ {A = ℕ} (cond a (cond b (cond c (cond p (cond d (cond e 0 7) 6) 2) 5) 4) 11) 0
     → (a ≡ true) × (b ≡ true) × (c ≡ true) × (p ≡ true) × (d ≡ true) × (e ≡ true)

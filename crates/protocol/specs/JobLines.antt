@@ -1,5 +1,5 @@
 -- A `job` line that gives no compute cost.
-use mathlib.Core.Path.{_≡_, ap₂, refl}
+use mathlib.Core.Path.{_≡_, refl}
 use mathlib.Core.List.{[], _∷_}
 use Prim.Native.Nat.{ℕ}
 use Rattle.planner.specs.declared.Farm.{Farm}

@@ -3,7 +3,8 @@
 //! memory. BEFORE is an earlier build of the program; it takes its turn in the
 //! same run, and the line also says how many times quicker the program is than
 //! that build, and its memory beside that build's. It is left out of a day that it
-//! cannot read. Both must write the same bytes as `second` and end well.
+//! answers otherwise, as a build from before a request may. The program itself must
+//! write the same bytes as `second` on every day and end well.
 
 use second::long_days::{long_days, LongDay};
 use second::program::answers;
@@ -49,37 +50,43 @@ fn bench(program: &Path, before: Option<&Path>) -> io::Result<()> {
     let second = std::env::current_exe()?.with_file_name("second");
     let file = std::env::temp_dir().join(format!("bench-{}.day", std::process::id()));
     for day in long_days() {
+        fs::write(&file, &day.bytes)?;
         let programs = Programs {
             program,
             second: &second,
-            before: before.filter(|_| !day.own_compute),
+            before,
         };
-        fs::write(&file, &day.bytes)?;
-        let measured =
-            check_answers(&programs, &file, &day).and_then(|()| measure(&programs, &file, &day));
+        let measured = on_day(programs, &file, &day);
         fs::remove_file(&file)?;
         println!("{}", measured?);
     }
     Ok(())
 }
 
-/// A program that answers otherwise does other work, so its time would say
-/// nothing.
-fn check_answers(programs: &Programs, file: &Path, day: &LongDay) -> io::Result<()> {
+/// One line about one day. A program that answers otherwise does other work, so
+/// its time would say nothing.
+fn on_day(mut programs: Programs, file: &Path, day: &LongDay) -> io::Result<String> {
     let expected = run(programs.second, file)?.stdout;
-    for path in [Some(programs.program), programs.before] {
-        let Some(path) = path else { continue };
+    let answers_alike = |path| -> io::Result<bool> {
         let given = run(path, file)?;
-        if given.stdout != expected || !given.status.success() {
-            return Err(io::Error::other(format!(
-                "{}: {} does not answer as second does ({})",
-                day.name,
-                path.display(),
-                given.status,
-            )));
-        }
+        Ok(given.stdout == expected && given.status.success())
+    };
+    if !answers_alike(programs.program)? {
+        return Err(io::Error::other(format!(
+            "{}: {} does not answer as second does",
+            day.name,
+            programs.program.display(),
+        )));
     }
-    Ok(())
+    let Some(before) = programs.before else {
+        return measure(&programs, file, day);
+    };
+    if answers_alike(before)? {
+        return measure(&programs, file, day);
+    }
+    programs.before = None;
+    let line = measure(&programs, file, day)?;
+    Ok(format!("{line}; before answers otherwise"))
 }
 
 /// An error names the program, as there are several.
@@ -90,7 +97,7 @@ fn run(path: &Path, file: &Path) -> io::Result<Output> {
     output.map_err(|error| io::Error::other(format!("{}: {error}", path.display())))
 }
 
-/// One line about one day.
+/// The figures of the programs on a day.
 fn measure(programs: &Programs, file: &Path, day: &LongDay) -> io::Result<String> {
     let times = medians(&mut commands(programs), file)?;
     let (program_time, second_time, whole_time) = (times[0], times[1], times[2]);
