@@ -6,6 +6,8 @@
 --    has at that move,"                                                               stories (`Lifecycle` in CallLists.antt)
 --   "and no others are ever issued."                                                  only
 --   "They add up to its size, end by its deadline,"                                   each (`Fulfils` in CallLists.antt)
+--   document 02 (i): "Deadlines are kept for mixed jobs as they were for equal ones." each, due (`Accepted` has the compute cost, and `Fulfils` says that
+--                                                                                     sends and finishes are what the costs with it make them)
 --   "and have been issued once the clock has reached that deadline."                  due
 --   "No later call alters an issued chunk."                                           unaltered
 --   "No two chunks, issued or booked, are on one node, and no two of their sends on the link, in the same tick."   apart
