@@ -16,5 +16,6 @@ pub mod Lifecycles
 pub mod Demand1
 pub mod Demand2
 pub mod Demand3
+pub mod Kept
 pub mod Reached
 pub mod Cases

@@ -1,17 +1,14 @@
 -- Farms that a granted opening and calls after it hand back. Each passes question 11, so that a loop over calls need not ask it again.
 use mathlib.Core.Path.{_≡_, refl, ap, subst, _∙_}
 use mathlib.Core.List.{List, [], _∷_, _++_}
-use mathlib.Core.Bool.{Bool, true, false, cond}
+use mathlib.Core.Bool.{true}
 use Prim.Native.Nat.{ℕ}
-use lib.Dec.{eqb}
-use lib.ListN.{length}
 use Rattle.shares.specs.declared.Costs.{Costs}
 use Rattle.planner.specs.declared.Farm.{Farm}
 use Rattle.planner.specs.Model.{Sized}
 use Rattle.planner.specs.Passes.{passesOf}
-use Rattle.planner.specs.Calls.{openSaid, openFarm, planned, accepts, withPlan, offerAsked, offerFarm}
-use Rattle.planner.specs.Clock.{movedFarm, moveAsked, moveFarm}
-use Rattle.demands.specs.CallLists.{Call, offer, move, History, handed, opening, run}
+use Rattle.planner.specs.Calls.{openSaid, openFarm}
+use Rattle.demands.specs.CallLists.{Call, History, handed, opening, run}
 use Rattle.demands.specs.Invariant.{open-inv, run-inv, run-append}
 use Rattle.demands.specs.Demand3.{opening-granted, demand3}
 
@@ -40,21 +37,6 @@ reached-call f c r = record {
   calls = r .calls ++ c ∷ [];
   is = ap (λ (w : History). w .farm) (run-append (opening (openFarm (r .nodes) (r .costs) (r .allowances))) (r .calls) (c ∷ [])) ∙ ap (λ (x : Farm). handed x c) (r .is);
 }
-
--- A call opens no farm and closes none.
-pub handed-opened : (f : Farm) (c : Call) → handed f c .opened ≡ f .opened
-unfolding offerFarm moveFarm
-handed-opened f (offer o) = go (eqb (offerAsked f o) 0) (accepts f o)
-  where
-    go : (a b : Bool) → cond {A = Farm} a (cond b (withPlan f (planned f o)) f) f .opened ≡ f .opened
-    go true true = refl
-    go true false = refl
-    go false b = refl
-handed-opened f (move t m) = go (eqb (moveAsked f t (length m)) 0)
-  where
-    go : (a : Bool) → cond {A = Farm} a (movedFarm f t) f .opened ≡ f .opened
-    go true = refl
-    go false = refl
 
 -- A farm that was reached passes question 11: demand 3 says so of every list.
 pub reached-passes : (f : Farm) → Reached f → passesOf f ≡ true

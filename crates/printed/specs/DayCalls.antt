@@ -20,8 +20,8 @@ use Rattle.reading.specs.declared.Kind.{Kind}
 use Rattle.reading.specs.declared.Kind.the-variants as kind
 use Rattle.reading.specs.Model.{lineKind, readable, numbersOf}
 use Rattle.protocol.specs.Model.{refusal, answerText, chunkText, chunkTexts, Answered, unread, costsIn, farmLine, computeIn, offerIn, jobLine, lent, clockLine, accountLine, inTurn, called, recorded, longest, answered}
-use Rattle.demands.specs.Reached.{handed-opened}
-use Rattle.demands.specs.CallLists.{Call, offer, move, withStart, linesBy, Accepted, jobsBy, History, opening, note, run}
+use Rattle.demands.specs.Kept.{run-keeps}
+use Rattle.demands.specs.CallLists.{Call, offer, move, withStart, linesBy, Accepted, jobsBy, History, opening, run}
 use Rattle.demands.specs.BegunJobs.{chunkOf}
 use Rattle.demands.specs.Invariant.{run-append}
 use Rattle.printed.specs.Model.{answers}
@@ -124,12 +124,6 @@ acceptedIn f (l ∷ ls) = acceptedBy f l ++ acceptedIn (answered f l .farm) ls
 
 -- ---- The farm
 
--- A farm stays opened.
-pub run-opened : (w : History) (cs : List Call) → run w cs .farm .opened ≡ w .farm .opened
-unfolding run
-run-opened w [] = refl
-run-opened w (c ∷ cs) = run-opened (note w c) cs ∙ handed-opened (w .farm) c
-
 kind-farm : (w : History) (k : Kind) (ns : List ℕ) → w .farm .opened ≡ true → recorded (w .farm) k ns .farm ≡ run w (callOf k ns) .farm
 unfolding recorded called jobLine clockLine accountLine run
 kind-farm w kind.Farm ns o = ap (λ (b : Bool). cond {A = Answered} (not b) (farmLine ns (drop 5 ns)) (unread (w .farm)) .farm) o
@@ -155,7 +149,7 @@ unfolding farmAfter callsIn run
 farm-from w [] o = refl
 farm-from w (l ∷ ls) o =
     ap (λ (g : Farm). farmAfter g ls) (line-farm w l o)
-    ∙ farm-from (run w (lineCall l)) ls (run-opened w (lineCall l) ∙ o)
+    ∙ farm-from (run w (lineCall l)) ls (run-keeps w (lineCall l) .opened ∙ o)
     ∙ ap (λ (v : History). v .farm) (sym (run-append w (lineCall l) (callsIn ls)))
 
 -- The farm after lines is the farm that their calls leave.
@@ -293,7 +287,7 @@ chunks-from w (l ∷ ls) o =
     ∙ sym (append-assoc (map chunkOf (w .lines)) (chunksIn (linePrints (w .farm) l)) (chunksIn (prints (answered (w .farm) l .farm) ls)))
     ∙ ap (λ (xs : List Chunk). xs ++ chunksIn (prints (answered (w .farm) l .farm) ls)) (line-chunks w l o)
     ∙ ap (λ (g : Farm). map chunkOf (run w (lineCall l) .lines) ++ chunksIn (prints g ls)) (line-farm w l o)
-    ∙ chunks-from v ls (run-opened w (lineCall l) ∙ o)
+    ∙ chunks-from v ls (run-keeps w (lineCall l) .opened ∙ o)
     ∙ ap (λ (u : History). map chunkOf (u .lines)) (sym (run-append w (lineCall l) (callsIn ls)))
 
 -- The `chunk` lines that lines print are the chunks that their calls issue, in order.
@@ -373,7 +367,7 @@ accepted-from w (l ∷ ls) o =
     sym (append-assoc (w .jobs) (acceptedBy (w .farm) l) (acceptedIn (answered (w .farm) l .farm) ls))
     ∙ ap (λ (xs : List Accepted). xs ++ acceptedIn (answered (w .farm) l .farm) ls) (line-accepted w l o)
     ∙ ap (λ (g : Farm). run w (lineCall l) .jobs ++ acceptedIn g ls) (line-farm w l o)
-    ∙ accepted-from (run w (lineCall l)) ls (run-opened w (lineCall l) ∙ o)
+    ∙ accepted-from (run w (lineCall l)) ls (run-keeps w (lineCall l) .opened ∙ o)
     ∙ ap (λ (u : History). u .jobs) (sym (run-append w (lineCall l) (callsIn ls)))
 
 -- The jobs that lines are told `yes` to are the jobs that their calls have accepted, in order.

@@ -17,18 +17,19 @@ use Rattle.limits.specs.Says.{between-is}
 use Rattle.walk.specs.declared.Chunk.{Chunk}
 use Rattle.planner.specs.declared.Farm.{Farm}
 use Rattle.planner.specs.Model.{between, Between, costsWithin, Span}
-use Rattle.planner.specs.Calls.{Said, Open, Account, granted, refused, showsWithin, openSaid, openFarm, openedWith, unopened, accountSaid, heldBy, allowanceOf, planned, accepts, withPlan, offerAsked, offerFarm}
-use Rattle.planner.specs.Clock.{holds, movedFarm, moveAsked, moveFarm}
+use Rattle.planner.specs.Calls.{Said, Open, Account, granted, refused, showsWithin, openSaid, openFarm, openedWith, unopened, accountSaid, heldBy, allowanceOf}
+use Rattle.planner.specs.Clock.{holds}
 use Rattle.reading.specs.declared.Kind.{Kind}
 use Rattle.reading.specs.declared.Kind.the-variants as kind
 use Rattle.reading.specs.Model.{lineKind, readable, numbersOf}
 use Rattle.protocol.specs.Model.{Answered, unread, costsIn, farmLine, accountLine, inTurn, called, recorded, longest, answered}
-use Rattle.demands.specs.CallLists.{Call, offer, move, handed, Accepted, History, opening, note, run, heldOf, linesFor, FromFirst}
+use Rattle.demands.specs.CallLists.{Call, Accepted, History, opening, run, heldOf, linesFor, FromFirst}
 use Rattle.demands.specs.BegunJobs.{chunkOf}
 use Rattle.demands.specs.Demand1.{open-keeps}
+use Rattle.demands.specs.Kept.{run-keeps}
 use Rattle.demands.specs.Demand3.{Issued, Booked, Demand3, demand3}
 use Rattle.printed.specs.Model.{linesIn, answers, dayText}
-use Rattle.printed.specs.DayCalls.{callsIn, farmAfter, Print, answer, printTexts, chunksIn, calledPrints, unreadPrints, recordedPrints, linePrints, prints, acceptedOn, acceptedBy, acceptedIn, run-opened, farm-after, answers-text, chunks-append, chunks-issued, jobs-accepted}
+use Rattle.printed.specs.DayCalls.{callsIn, farmAfter, Print, answer, printTexts, chunksIn, calledPrints, unreadPrints, recordedPrints, linePrints, prints, acceptedOn, acceptedBy, acceptedIn, farm-after, answers-text, chunks-append, chunks-issued, jobs-accepted}
 
 -- ---- Lines
 
@@ -164,37 +165,6 @@ held-among s all (x ∷ xs) h = go (eqb (x .chunk .show) s) (held-among s all xs
 -- The sum over the issued chunks of a show can be read from the printed lines alone.
 pub held-printed : (f : Farm) (cs : List Call) (w : History) → Demand3 f cs w → (s : ℕ) → heldOf s (w .lines) ≡ heldIn s (map chunkOf (w .lines))
 held-printed f cs w d s = held-among s (map chunkOf (w .lines)) (w .lines) (issued-started f cs w d)
-
--- ---- What calls keep
-
--- no call changes these
-pub record Keeps (f g : Farm) : Type 0 where
-  pub shows : g .shows ≡ f .shows
-  pub allowances : g .allowances ≡ f .allowances
-  pub costs : g .costs ≡ f .costs
-
-handed-keeps : (f : Farm) (c : Call) → Keeps f (handed f c)
-unfolding offerFarm moveFarm
-handed-keeps f (offer o) = go (eqb (offerAsked f o) 0) (accepts f o)
-  where
-    go : (a b : Bool) → Keeps f (cond {A = Farm} a (cond b (withPlan f (planned f o)) f) f)
-    go true true = record { shows = refl; allowances = refl; costs = refl }
-    go true false = record { shows = refl; allowances = refl; costs = refl }
-    go false b = record { shows = refl; allowances = refl; costs = refl }
-handed-keeps f (move t m) = go (eqb (moveAsked f t (length m)) 0)
-  where
-    go : (a : Bool) → Keeps f (cond {A = Farm} a (movedFarm f t) f)
-    go true = record { shows = refl; allowances = refl; costs = refl }
-    go false = record { shows = refl; allowances = refl; costs = refl }
-
--- The shows, their allowances and the costs are those of the opening.
-pub run-keeps : (w : History) (cs : List Call) → Keeps (w .farm) (run w cs .farm)
-unfolding run
-run-keeps w [] = record { shows = refl; allowances = refl; costs = refl }
-run-keeps w (c ∷ cs) =
-    let r = run-keeps (note w c) cs in
-    let h = handed-keeps (w .farm) c in
-    record { shows = r .shows ∙ h .shows; allowances = r .allowances ∙ h .allowances; costs = r .costs ∙ h .costs }
 
 -- ---- A line that can be read
 
@@ -493,7 +463,7 @@ module _ (before : List (List ℕ)) (l : List ℕ) (h : All Stays before) (o : O
       s = getD (numbersOf a) 0 0
 
       opened : g .opened ≡ true
-      opened = ap (λ (f : Farm). f .opened) (lines-farm part) ∙ run-opened (opening (farmOn l)) (callsIn part) ∙ opens-opened l o
+      opened = ap (λ (f : Farm). f .opened) (lines-farm part) ∙ run-keeps (opening (farmOn l)) (callsIn part) .opened ∙ opens-opened l o
 
       said : linePrints g a ≡ answer (accountOf (allowancesOn l) s (chunksIn (prints unopened (before ++ l ∷ part)))) ∷ []
       said =

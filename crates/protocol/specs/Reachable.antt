@@ -14,7 +14,8 @@ use Rattle.planner.specs.Passes.{passesOf}
 use Rattle.planner.specs.Calls.{unopened, showsWithin, openSaid, openFarm, offerFarm}
 use Rattle.planner.specs.Clock.{moveFarm}
 use Rattle.demands.specs.CallLists.{Call, offer, move, handed}
-use Rattle.demands.specs.Reached.{Reached, reached-opening, reached-call, handed-opened, reached-passes, reached-sized}
+use Rattle.demands.specs.Kept.{handed-keeps}
+use Rattle.demands.specs.Reached.{Reached, reached-opening, reached-call, reached-passes, reached-sized}
 use Rattle.text.specs.Model.{newline}
 use Rattle.reading.specs.declared.Kind.{Kind}
 use Rattle.reading.specs.declared.Kind.the-variants as kind
@@ -49,7 +50,7 @@ opening-reachable n c al = go (between 1 n 64) (costsWithin c) (showsWithin al) 
 
 -- A call keeps it so.
 pub call-reachable : (f : Farm) (c : Call) → Reachable f → Reachable (handed f c)
-call-reachable f c r o = reached-call f c (r (sym (handed-opened f c) ∙ o))
+call-reachable f c r o = reached-call f c (r (sym (handed-keeps f c .opened) ∙ o))
 
 noChunk : Chunk
 noChunk = record { job = 0; show = 0; node = 0; units = 0; start = 0; sent = 0; finish = 0 }
