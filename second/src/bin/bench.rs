@@ -8,6 +8,7 @@
 
 use second::long_days::{long_days, LongDay};
 use second::program::answers;
+use second::random::Random;
 use std::fs::{self, File};
 use std::io::{self, Read, Write};
 use std::path::{Path, PathBuf};
@@ -15,7 +16,7 @@ use std::process::{Command, ExitCode, Output, Stdio};
 use std::sync::mpsc;
 use std::time::{Duration, Instant};
 
-const REPETITIONS: usize = 5;
+const REPETITIONS: usize = 15;
 
 /// How long a program may take to answer all lines before its memory is read.
 const PATIENCE: Duration = Duration::from_secs(60);
@@ -140,15 +141,25 @@ fn commands(programs: &Programs) -> Vec<Command> {
 }
 
 /// Median seconds of each command. They take turns, so that a slow moment of
-/// the machine meets them all.
+/// the machine meets them all, and each time in another order: in a fixed one a
+/// program's place cost it up to a fifth.
 fn medians(commands: &mut [Command], file: &Path) -> io::Result<Vec<f64>> {
     let mut times = vec![Vec::new(); commands.len()];
+    let mut order: Vec<usize> = (0..commands.len()).collect();
+    let mut random = Random::new(1);
     for _ in 0..REPETITIONS {
-        for (command, times) in commands.iter_mut().zip(&mut times) {
-            times.push(time(command, file)?);
+        shuffle(&mut order, &mut random);
+        for &turn in &order {
+            times[turn].push(time(&mut commands[turn], file)?);
         }
     }
     Ok(times.into_iter().map(median).collect())
+}
+
+fn shuffle(order: &mut [usize], random: &mut Random) {
+    for last in (1..order.len()).rev() {
+        order.swap(last, random.place(last + 1));
+    }
 }
 
 fn median(mut times: Vec<f64>) -> f64 {
