@@ -48,7 +48,7 @@ use Rattle.planner.specs.Clock.{begun, issued, moveAsked}
 use Rattle.demands.specs.Starts.{StartsDiffer, starts-differ, next-few, next-granted}
 use Rattle.demands.specs.CallLists.{Call, offer, move, handed, isGranted, linesBy, Accepted, jobsBy, History, opening, note, run, heldOf, upTo, linesFor, latestFinish, latestSent, acceptedOf, Fulfils, FromFirst, Waits, IssuesNone, Lifecycle}
 use Rattle.demands.specs.BegunJobs.{chunkOf}
-use Rattle.demands.specs.JobNumbers.{numberOfJob}
+use Rattle.queue.specs.Numbers.{numberOfJob}
 use Rattle.demands.specs.MovePasses.{Waiting, waiting-jobs, booked-chain}
 use Rattle.demands.specs.Outcome.{taken, Takes, Moves, outcome}
 use Rattle.demands.specs.Invariant.{idle, Whole, Inv, plan-accepted, whole-proper, open-inv, note-inv, run-inv}

@@ -6,7 +6,6 @@ pub mod Offers
 pub mod OfferPasses
 pub mod BegunJobs
 pub mod HeldTicks
-pub mod JobNumbers
 pub mod MoveAnswers
 pub mod MovePasses
 pub mod Starts

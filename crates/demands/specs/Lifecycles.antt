@@ -31,7 +31,7 @@ use Rattle.planner.specs.Clock.{startsBy, startsAfter, begun, left, movedFarm}
 use Rattle.demands.specs.CallLists.{Call, offer, move, handed, linesBy, Accepted, History, note, linesFor, unitsIn, acceptedOf, Fulfils, FromFirst, Waits, NoneOf, IssuesNone, Lifecycle, waits, passes, begins}
 use Rattle.timetable.specs.Keep.{keep-all}
 use Rattle.demands.specs.BegunJobs.{begun-left}
-use Rattle.demands.specs.JobNumbers.{numberOfJob}
+use Rattle.queue.specs.Numbers.{numberOfJob}
 use Rattle.demands.specs.MovePasses.{Waiting, waiting-jobs, waiting-differ, begun-jobs, moved-waiting}
 use Rattle.demands.specs.Outcome.{Refused, Takes, Moves, outcome, chunks-named}
 use Rattle.demands.specs.Invariant.{Whole, Inv, waiting-whole, plan-accepted, note-inv}

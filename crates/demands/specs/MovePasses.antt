@@ -27,7 +27,7 @@ use Rattle.planner.specs.Clock.{startsBy, startsAfter, begun, left, linesOfAll,
 use Rattle.timetable.specs.Keep.{keep-all, keep-length}
 use Rattle.timetable.specs.HeldSteps.{raised-length}
 use Rattle.demands.specs.BegunJobs.{later, begun-later, later-left, begun-left, spans-append, spans-chunks}
-use Rattle.demands.specs.JobNumbers.{numberOfJob}
+use Rattle.queue.specs.Numbers.{numberOfJob}
 
 -- what is known of a waiting job of a farm that passes
 pub record Waiting (f : Farm) (j : Job) : Type 0 where

@@ -25,7 +25,7 @@ use Rattle.planner.specs.OfferSteps.{offer-granted}
 use Rattle.planner.specs.Clock.{startsBy, begun, linesOfAll, issued, movedFarm, moveAsked, moveSaid, moveFarm, moveMemory}
 use Rattle.demands.specs.CallLists.{Call, offer, move, handed, isGranted, withStart, linesBy, Accepted, jobsBy, planBy, timeBy}
 use Rattle.timetable.specs.Keep.{keep-all}
-use Rattle.demands.specs.JobNumbers.{numberOfJob, of-number-is, of-number-found}
+use Rattle.queue.specs.Numbers.{numberOfJob, of-number-is, of-number-found}
 use Rattle.planner.specs.ClockSteps.{MoveGranted, move-granted}
 use Rattle.demands.specs.MovePasses.{waiting-differ}
 

@@ -7,7 +7,7 @@ use native.Mathlib.Omega.{arith}
 use borrow.Author.Tests.{leb-true, le-leb, lt-leb, eqb-true, eq-eqb, ne-eqb}
 use lib.Dec.{leb, eqb}
 use lib.ListN.{length, getD, take, drop, take-append-drop, length-map}
-use lib.Seq.{take-at, length-take-le, getD-drop}
+use lib.Seq.{take-at, length-take-le}
 use Rattle.lists.specs.Laws.{All, all-map, all-both, all-front, all-take, perm-all, perm-length}
 use Rattle.shares.specs.declared.Costs.{Costs}
 use Rattle.booking.specs.Best.{chosen}
@@ -190,13 +190,6 @@ module _ (f : Farm) (t : ℕ) (d : Due) (sized : Sized f) (x : Begins f t d) whe
 
   pub begins-count : length (issued f t) ≡ d .lines
   begins-count = all-lines (f .costs) (begun f t) (can-begin-sends f (begun f t) (begun-can-begin f sized (x .passes) t)) ∙ sym (x .due .lines)
-
--- A job behind those that are kept is the old one.
-pub behind-same : (out old : List Job) (k i : ℕ) → k ≤ i → drop k out ≡ drop k old → getD out i noJob ≡ getD old i noJob
-behind-same out old k i h d =
-    let e : k + (i - k) ≡ i = omega arith in
-    ap (λ (x : ℕ). getD out x noJob) (sym e) ∙ sym (getD-drop k out (i - k) noJob) ∙ ap (λ (l : List Job). getD l (i - k) noJob) d ∙ getD-drop k old (i - k) noJob
-    ∙ ap (λ (x : ℕ). getD old x noJob) e
 
 -- the farm with other jobs, and with another count of them
 abbrev pub jobsAs : Farm → List Job → Farm

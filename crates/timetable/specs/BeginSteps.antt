@@ -1,12 +1,9 @@
 -- What the functions of src/begin.rt promise each other, and their loops' steps.
-use mathlib.Core.Path.{_≡_, refl, ap, ap₂, sym, _∙_}
-use mathlib.Core.List.{List, [], _∷_, _++_, append-nil, append-assoc}
+use mathlib.Core.Path.{_≡_, refl}
+use mathlib.Core.List.{List, [], _∷_, _++_}
 use Prim.Native.Nat.{ℕ, _+_, _-_, _≤_, _<_}
-use native.Mathlib.Numerals.{add-one}
-use native.Mathlib.Omega.{arith}
 use borrow.Author.Tests.{le-leb, lt-leb}
-use lib.ListN.{length, getD, take, drop, set, length-set, take-append-drop}
-use lib.Seq.{length-take-le, take-suc-set}
+use lib.ListN.{length, getD, take, drop}
 use Rattle.lists.specs.Laws.{All, front-next}
 use Rattle.shares.specs.declared.Costs.{Costs}
 use Rattle.walk.specs.declared.Job.{Job}
@@ -14,7 +11,6 @@ use Rattle.walk.specs.declared.Busy.{Busy}
 use Rattle.walk.specs.declared.Chunk.{Chunk}
 use Rattle.walk.specs.Model.{noJob, afters}
 use Rattle.walk.specs.Chunks.{Sends}
-use Rattle.walk.specs.OrderSteps.{rest-more}
 use Rattle.timetable.specs.Model.{startsAfter, keep}
 
 -- how many chunks jobs have
@@ -64,32 +60,3 @@ module _ (jobs : List Job) (n i : ℕ) (h : i < n) (f : n ≤ length jobs) where
       → keep (startsAfter t) (drop i (take n jobs)) ≡ keep (startsAfter t) (drop (i + 1) (take n jobs))
   unfolding keep
   keep-past t k = rw (jobs-next, le-leb (getD jobs i noJob .booking .start) t k)
-
--- ---- What is kept of an array
-
--- kept elements at the front of out, the old array behind them, and what is still to come
-pub record Kept {A : Type 0} (whole old out : List A) (kept : ℕ) (rest : List A) : Type 0 where
-  pub size : length out ≡ 128
-  pub front : whole ≡ take kept out ++ rest
-  pub behind : drop kept out ≡ drop kept old
-
-pub kept-more : {A : Type 0} (whole old out : List A) (k : ℕ) (x : A) (rest : List A) → k < 128 → Kept whole old out k (x ∷ rest) → Kept whole old (set out k x) (k + 1) rest
-kept-more {A} whole old out k x rest h y =
-    let s = y .size in
-    let t : take (k + 1) (set out k x) ≡ take k out ++ x ∷ [] = rw (add-one k) (take-suc-set out k x (omega arith)) in
-    record {
-      size = length-set out k x ∙ s;
-      front = y .front ∙ sym (ap (λ (l : List A). l ++ rest) t ∙ append-assoc (take k out) _ rest);
-      behind = rest-more out old k x (y .behind);
-    }
-
--- At the end what is kept is the front.
-pub kept-front : {A : Type 0} (whole old out : List A) (k : ℕ) → Kept whole old out k [] → take k out ≡ whole
-kept-front whole old out k x = sym (x .front ∙ append-nil (take k out))
-
--- The array is what is kept with the old elements behind it.
-pub kept-all : {A : Type 0} (whole old out : List A) (k : ℕ) → k ≤ 128 → Kept whole old out k [] → (k ≡ length whole) × (out ≡ whole ++ drop k old)
-kept-all whole old out k h x =
-    let s = x .size in
-    let e : take k out ≡ whole = kept-front whole old out k x in
-    (sym (sym (ap length e) ∙ length-take-le k out (omega arith)), sym (take-append-drop k out) ∙ ap₂ _++_ e (x .behind))

@@ -10,6 +10,7 @@ use lib.Dec.{leb}
 use borrow.Author.Tests.{le-leb, lt-leb}
 use lib.ListN.{length, getD, take, drop, set}
 use Rattle.lists.specs.Laws.{All, all-map, front-next, front-none}
+use Rattle.lists.specs.Fronts.{Kept, kept-more, kept-front}
 use Rattle.keys.specs.declared.Key.{Key}
 use Rattle.keys.specs.Model.{noLater, sortKeys, sortedFront}
 use Rattle.keys.specs.Sorted.{Sorted, sort-perm, sort-sorted, sort-only, sort-all, front-sorted, front-length}
@@ -20,7 +21,7 @@ use Rattle.walk.specs.OrderSteps.{order-within, in-order-front}
 use Rattle.timetable.specs.declared.Due.{Due}
 use Rattle.timetable.specs.Model.{keep, startsBy}
 use Rattle.timetable.specs.Keep.{keep-all, keep-perm}
-use Rattle.timetable.specs.BeginSteps.{chunks, Kept, kept-more, kept-front}
+use Rattle.timetable.specs.BeginSteps.{chunks}
 
 -- r is what a move to t begins of the first `waiting` jobs of a row: its keys name the jobs that start by t, in order of start
 pub record IsDue (row : List Job) (waiting t : ℕ) (r : Due) : Type 0 where
@@ -90,7 +91,7 @@ chunks-perm (List·Permᴰ·trans d₁ d₂) = chunks-perm d₁ ∙ chunks-perm 
 
 -- where the pass over the first n jobs stands at place i
 pub record Finding (jobs : List Job) (n t : ℕ) (first keys : List Key) (count lines i : ℕ) : Type 0 where
-  pub kept : Kept (keep (timedBy t) (keysBy startOf 0 (take n jobs))) first keys count (keep (timedBy t) (keysBy startOf i (drop i (take n jobs))))
+  pub kept : Kept 128 (keep (timedBy t) (keysBy startOf 0 (take n jobs))) first keys count (keep (timedBy t) (keysBy startOf i (drop i (take n jobs))))
   pub sum : chunks (keep (startsBy t) (take n jobs)) ≡ lines + chunks (keep (startsBy t) (drop i (take n jobs)))
   pub few : count ≤ i
   pub most : lines ≤ 64 * i
@@ -115,7 +116,7 @@ module _ (jobs : List Job) (n i t : ℕ) (h : i < n) (m : n ≤ 128) (f : n ≤ 
       let e : keep (timedBy t) (keysBy startOf i (drop i (take n jobs))) ≡ key ∷ keep (timedBy t) (keysBy startOf (i + 1) later) = rw (next, le-leb (job .booking .start) t k, add-one i) in
       let s : chunks (keep (startsBy t) (drop i (take n jobs))) ≡ job .booking .count + chunks (keep (startsBy t) later) = rw (next, le-leb (job .booking .start) t k) in
       record {
-        kept = kept-more _ first keys count key _ (omega arith) (subst (Kept _ first keys count) e (x .kept));
+        kept = kept-more 128 _ first keys count key _ (omega arith) (subst (Kept 128 _ first keys count) e (x .kept));
         sum = omega (arith, x .sum, s);
         few = omega arith;
         most = omega (arith, x .most);
@@ -128,7 +129,7 @@ module _ (jobs : List Job) (n i t : ℕ) (h : i < n) (m : n ≤ 128) (f : n ≤ 
       let e : keep (timedBy t) (keysBy startOf i (drop i (take n jobs))) ≡ keep (timedBy t) (keysBy startOf (i + 1) later) = rw (next, lt-leb (job .booking .start) t k, add-one i) in
       let s : chunks (keep (startsBy t) (drop i (take n jobs))) ≡ chunks (keep (startsBy t) later) = rw (next, lt-leb (job .booking .start) t k) in
       record {
-        kept = subst (Kept _ first keys count) e (x .kept);
+        kept = subst (Kept 128 _ first keys count) e (x .kept);
         sum = x .sum ∙ ap (λ (a : ℕ). lines + a) s;
         few = omega (arith, x .few);
         most = omega (arith, x .most);
@@ -144,7 +145,7 @@ finding-all jobs n i t first keys order count lines e m f x o =
     let ks = sortKeys (keysBy startOf 0 (take n jobs)) in
     let c : min count 128 ≡ count = omega arith in
     let none = front-none jobs n i f (omega arith) in
-    let all : take count keys ≡ keep (timedBy t) (keysBy startOf 0 (take n jobs)) = kept-front _ first keys count (rw none at (x .kept)) in
+    let all : take count keys ≡ keep (timedBy t) (keysBy startOf 0 (take n jobs)) = kept-front 128 _ first keys count (rw none at (x .kept)) in
     let is : take count order ≡ keep (timedBy t) ks = ap (take count) o ∙ rw c at (front-sorted keys count size) ∙ ap sortKeys all ∙ sort-keep (timedBy t) (keysBy startOf 0 (take n jobs)) in
     let within : All (λ (k : Key). k .place < n) (keep (timedBy t) ks) = all-map (λ k a. a .0) (keep (timedBy t) ks) (keep-all (timedBy t) (λ (k : Key). k .place < n) ks (order-within startOf jobs n f)) in
     let starts : All (StartKey (take n jobs)) ks = sort-all (StartKey (take n jobs)) (keysBy startOf 0 (take n jobs)) (start-keys (take n jobs) (take n jobs) 0 (λ k. ap (λ (a : ℕ). getD (take n jobs) a noJob) (omega arith))) in

@@ -6,12 +6,13 @@ use Prim.Native.Nat.{_-_, _≤_, _<_}
 use native.Mathlib.Omega.{arith}
 use lib.ListN.{length, getD, take, drop, set}
 use Rattle.lists.specs.Laws.{front-none}
+use Rattle.lists.specs.Fronts.{behind-same, Kept, kept-more, kept-all}
 use Rattle.walk.specs.declared.Job.{Job}
 use Rattle.walk.specs.Model.{noJob}
 use Rattle.timetable.specs.Model.{keep, startsAfter}
-use Rattle.timetable.specs.BeginSteps.{Kept, kept-more, kept-all, keep-next, keep-past}
+use Rattle.timetable.specs.BeginSteps.{keep-next, keep-past}
 use Rattle.planner.specs.declared.Farm.{Farm}
-use Rattle.planner.specs.ClockSteps.{behind-same, jobsAs, waitingAs, moved-is, waiting-few, begins-few, begins-places, begins-raises}
+use Rattle.planner.specs.ClockSteps.{jobsAs, waitingAs, moved-is, waiting-few, begins-few, begins-places, begins-raises}
 use Rattle.planner.proofs.Sizes.{farm-sized}
 use Rattle.planner.proofs.Farm.moved.Statement.{statement}
 use Rattle.planner.proofs.Farm.moved.Tie as tie
@@ -20,7 +21,7 @@ abbrev Inv-loop : tie.InvT-loop
 Inv-loop time self₀ waiting kept₀ i₀ self kept i =
     ((waiting ≤ 128) × (i ≤ waiting) × (kept ≤ i))
     × (self ≡ jobsAs self₀ (self .jobs))
-    × Kept (keep (startsAfter time) (take waiting (self₀ .jobs))) (self₀ .jobs) (self .jobs) kept (keep (startsAfter time) (drop i (take waiting (self₀ .jobs))))
+    × Kept 128 (keep (startsAfter time) (take waiting (self₀ .jobs))) (self₀ .jobs) (self .jobs) kept (keep (startsAfter time) (drop i (take waiting (self₀ .jobs))))
 
 abbrev μ-loop : tie.MeasureT-loop
 μ-loop time self₀ waiting kept₀ i₀ self kept i = waiting - i
@@ -67,17 +68,17 @@ loop-again c =
     let h = c .before .before .before .before .loop-test .taken in
     let old : List Job = a .t1 .jobs in
     let fits : a .t1 .waiting ≤ length old = omega (arith, l .inv .0, farm-sized (a .t1) (s .good .0) .jobs) in
-    let same : getD (l .self .jobs) (l .i) noJob ≡ getD old (l .i) noJob = behind-same (l .self .jobs) old (l .kept) (l .i) (l .inv .0 .2) (l .inv .2 .behind) in
+    let same : getD (l .self .jobs) (l .i) noJob ≡ getD old (l .i) noJob = behind-same noJob (l .self .jobs) old (l .kept) (l .i) (l .inv .0 .2) (l .inv .2 .behind) in
     ⊎-elim
     (λ x.
     let n = keep-next old (a .t1 .waiting) (l .i) h fits (a .time) (subst (λ (j : Job). a .time < j .booking .start) same (x .0 .taken)) in (
       (l .inv .0 .0, omega (arith, h), omega (arith, x .2, l .inv .0)),
       rw (x .1) (ap (λ (f : Farm). jobsAs f (set (l .self .jobs) (l .kept) (getD (l .self .jobs) (l .i) noJob))) (l .inv .1)),
-      rw (x .1, x .2, same) (kept-more _ old (l .self .jobs) (l .kept) (getD old (l .i) noJob) _ (omega (arith, l .inv .0, h)) (subst (Kept _ old (l .self .jobs) (l .kept)) n (l .inv .2))),
+      rw (x .1, x .2, same) (kept-more 128 _ old (l .self .jobs) (l .kept) (getD old (l .i) noJob) _ (omega (arith, l .inv .0, h)) (subst (Kept 128 _ old (l .self .jobs) (l .kept)) n (l .inv .2))),
     ))
     (λ x.
     let n = keep-past old (a .t1 .waiting) (l .i) h fits (a .time) (subst (λ (j : Job). j .booking .start ≤ a .time) same (x .0 .left)) in
-    ((l .inv .0 .0, omega (arith, h), omega (arith, x .2, l .inv .0)), rw (x .1) (l .inv .1), rw (x .1, x .2) (subst (Kept _ old (l .self .jobs) (l .kept)) n (l .inv .2))))
+    ((l .inv .0 .0, omega (arith, h), omega (arith, x .2, l .inv .0)), rw (x .1) (l .inv .1), rw (x .1, x .2) (subst (Kept 128 _ old (l .self .jobs) (l .kept)) n (l .inv .2))))
     (c .if1 .came)
 
 returns : tie.Need-returns Inv-loop μ-loop
@@ -91,8 +92,8 @@ returns c =
     let fits : a .t1 .waiting ≤ length old = omega (arith, l .inv .0, farm-sized (a .t1) (s .good .0) .jobs) in
     let none = front-none old (a .t1 .waiting) (l .i) fits (c .loop-test .left) in
     let whole = keep (startsAfter (a .time)) (take (a .t1 .waiting) old) in
-    let x = subst (λ (js : List Job). Kept whole old (l .self .jobs) (l .kept) (keep (startsAfter (a .time)) js)) none (l .inv .2) in
-    let e = kept-all whole old (l .self .jobs) (l .kept) (omega (arith, l .inv .0)) x in
+    let x = subst (λ (js : List Job). Kept 128 whole old (l .self .jobs) (l .kept) (keep (startsAfter (a .time)) js)) none (l .inv .2) in
+    let e = kept-all 128 whole old (l .self .jobs) (l .kept) (omega (arith, l .inv .0)) x in
     ap (λ (f : Farm). waitingAs f (l .kept)) (l .inv .1)
     ∙ moved-is (a .t1) (a .time) _ (b .result .busy) (b .result .held) (l .kept) (l .self .jobs) (s .pre .due .jobs) (b .ensures .0) (b .ensures .1) (e .0) (e .1)
 
