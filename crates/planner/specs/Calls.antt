@@ -1,4 +1,6 @@
--- The calls: what each answers, with the paper's number and values, and the farm that it hands back.
+-- The calls: what each answers, with the paper's number and values, and the farm that it hands back. Which waiting job has a number, and the jobs without
+-- it, are those of the crate queue.
+unfoldable pub use Rattle.queue.specs.Model.{hasNumber, ofNumber, without}
 use Prim.Native.Nat.{ℕ, _+_, _-_, _≤_, _<_}
 use mathlib.Core.List.{List, [], _∷_, _++_}
 use mathlib.Core.Bool.{Bool, true, false, cond, _&&_}
@@ -22,13 +24,14 @@ use Rattle.planner.specs.Passes.{passesOf}
 
 -- ---- Answers
 
--- which answer it is: the paper's words open, yes, clock, account and no; what showing answers has no word there
+-- which answer it is: the paper's words open, yes, clock, account, gone and no; what showing answers has no word there
 pub data Word : Type 0 where
   Open : Word
   Yes : Word
   Clock : Word
   Shown : Word
   Account : Word
+  Gone : Word
   No : Word
 
 -- an answer in the paper's terms: its word; the number of the question that was answered no, 0 where all were answered yes; and the values
@@ -55,6 +58,7 @@ numberOf question.Walk = 8
 numberOf question.Time = 9
 numberOf question.Lines = 10
 numberOf question.Farm = 11
+numberOf question.Waiting = 12
 
 -- the paper's word, number and values for each case of an answer
 abbrev pub said : Answer → Said
@@ -63,6 +67,7 @@ said (answer.Yes j s t k) = granted Yes (j ∷ s ∷ t ∷ k ∷ [])
 said (answer.Clock t n) = granted Clock (t ∷ n ∷ [])
 said (answer.Shown n) = granted Shown (n ∷ [])
 said (answer.Account s h c) = granted Account (s ∷ h ∷ c ∷ [])
+said (answer.Gone j) = granted Gone (j ∷ [])
 said (answer.No q) = refused (numberOf q)
 
 -- a reply says so and hands this farm back
@@ -185,11 +190,6 @@ nextFarm f js = record {
 abbrev pub withPlan : Farm → List Job → Farm
 withPlan f js = nextFarm f (js ++ drop (f .waiting + 1) (f .jobs))
 
--- the job of a number (the empty job where there is none)
-unfoldable pub ofNumber : ℕ → List Job → Job
-ofNumber n [] = emptyJob
-ofNumber n (j ∷ js) = cond (eqb (j .number) n) j (ofNumber n js)
-
 -- job, start, finish and count of nodes
 abbrev pub yesOf : Costs → Job → Said
 yesOf c j = granted Yes (j .number ∷ j .booking .start ∷ finishOf c j ∷ j .booking .count ∷ [])
@@ -227,3 +227,33 @@ offerSaid f o =
 
 unfoldable pub offerFarm : Farm → Offer → Farm
 offerFarm f o = cond (eqb (offerAsked f o) 0) (cond (accepts f o) (withPlan f (planned f o)) f) f
+
+-- ---- Withdrawal
+
+-- the farm with one job less, and these jobs
+abbrev pub fewerFarm : Farm → List Job → Farm
+fewerFarm f js = record {
+  opened = f .opened;
+  nodes = f .nodes;
+  costs = f .costs;
+  shows = f .shows;
+  allowances = f .allowances;
+  held = f .held;
+  clock = f .clock;
+  link = f .link;
+  free = f .free;
+  used = f .used;
+  waiting = f .waiting - 1;
+  jobs = js;
+}
+
+-- the farm without job n: the other waiting jobs as they are, in the order that they have, and nothing walked. The cells behind them hold what they held.
+abbrev pub withdrawnFarm : Farm → ℕ → Farm
+withdrawnFarm f n = fewerFarm f (without n (waitingOf f) ++ drop (f .waiting - 1) (f .jobs))
+
+-- questions 11 and 12 in that order; the job
+unfoldable pub withdrawSaid : Farm → ℕ → Said
+withdrawSaid f n = cond (passesOf f) (cond (hasNumber n (waitingOf f)) (granted Gone (n ∷ [])) (refused 12)) (refused 11)
+
+unfoldable pub withdrawFarm : Farm → ℕ → Farm
+withdrawFarm f n = cond (passesOf f && hasNumber n (waitingOf f)) (withdrawnFarm f n) f

@@ -42,6 +42,7 @@ no-number question.Walk = refl
 no-number question.Time = refl
 no-number question.Lines = refl
 no-number question.Farm = refl
+no-number question.Waiting = refl
 
 -- ---- Opening
 

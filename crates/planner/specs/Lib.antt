@@ -5,5 +5,6 @@ pub mod PassesSteps
 pub mod Calls
 pub mod CallsSteps
 pub mod OfferSteps
+pub mod WithdrawSteps
 pub mod Clock
 pub mod ClockSteps

@@ -140,20 +140,20 @@ module _ (f : Farm) (j : Job) (o : Offered f j) (new : j .number ≡ f .used + 1
 
 -- what question 8 comes to for a new job
 pub record Planned (f : Farm) (j : Job) (r : Decision) : Type 0 where
-  pub books : r .accepted ≡ booksAll (termsOf f) (busyOf f) (byDeadline (waitingOf f ++ j ∷ []))
-  pub plans : r .accepted ≡ true → r .jobs ≡ plan (termsOf f) (busyOf f) (byDeadline (waitingOf f ++ j ∷ [])) ++ drop (f .waiting + 1) (f .jobs)
-  pub says : said (r .answer) ≡ cond (r .accepted) (yesOf (f .costs) (ofNumber (j .number) (plan (termsOf f) (busyOf f) (byDeadline (waitingOf f ++ j ∷ []))))) (refused 8)
+  pub books : r .granted ≡ booksAll (termsOf f) (busyOf f) (byDeadline (waitingOf f ++ j ∷ []))
+  pub plans : r .granted ≡ true → r .jobs ≡ plan (termsOf f) (busyOf f) (byDeadline (waitingOf f ++ j ∷ [])) ++ drop (f .waiting + 1) (f .jobs)
+  pub says : said (r .answer) ≡ cond (r .granted) (yesOf (f .costs) (ofNumber (j .number) (plan (termsOf f) (busyOf f) (byDeadline (waitingOf f ++ j ∷ []))))) (refused 8)
 
 -- what an offer to a farm that passes comes to
 pub record Decides (f : Farm) (o : Offer) (r : Decision) : Type 0 where
   pub says : said (r .answer) ≡ offerSaid f o
   -- accepted: one number more is used, and these jobs wait
-  pub accepts : r .accepted ≡ true → (offerFarm f o ≡ nextFarm f (r .jobs)) × (f .waiting < 128) × (f .used < greatest)
-  pub refuses : r .accepted ≡ false → offerFarm f o ≡ f
+  pub accepts : r .granted ≡ true → (offerFarm f o ≡ nextFarm f (r .jobs)) × (f .waiting < 128) × (f .used < greatest)
+  pub refuses : r .granted ≡ false → offerFarm f o ≡ f
 
 module _ (f : Farm) (o : Offer) where
   -- A question before the walk stops it.
-  pub decides-no : (q : Question) (js : List Job) → numberOf q ≡ offerAsked f o → Decides f o (record { accepted = false; answer = answer.No q; jobs = js })
+  pub decides-no : (q : Question) (js : List Job) → numberOf q ≡ offerAsked f o → Decides f o (record { granted = false; answer = answer.No q; jobs = js })
   unfolding offerSaid offerFarm
   decides-no q js e =
       let n : eqb (offerAsked f o) 0 ≡ false = ap (λ (k : ℕ). eqb k 0) (sym e) ∙ no-number q in

@@ -1,10 +1,11 @@
-// The farm: opening, offers, clock moves, showing and accounts. Each call takes the farm as a value and hands the next
+// The farm: opening, offers, withdrawals, clock moves, showing and accounts. Each call takes the farm as a value and hands the next
 // one back. What each call means is in specs/Calls.antt and specs/Clock.antt.
 mod calls;
 mod clock;
 mod offers;
 mod passing;
 mod table;
+mod withdraw;
 
 use shares::Costs;
 use timetable::Due;
@@ -55,6 +56,7 @@ pub enum Question {
     Time,
     Lines,
     Farm,
+    Waiting,
 }
 
 // What a call answers.
@@ -81,6 +83,9 @@ pub enum Answer {
         held: u64,
         charged: u64,
     },
+    Gone {
+        job: u64,
+    },
     No(Question),
 }
 
@@ -90,9 +95,9 @@ pub struct Reply {
     pub farm: Farm,
 }
 
-// What an offer comes to: its answer and, where it is accepted, the jobs that wait then.
+// What an offer or a withdrawal comes to: whether it is granted, its answer and, where it is granted, the jobs that wait then.
 pub struct Decision {
-    pub accepted: bool,
+    pub granted: bool,
     pub answer: Answer,
     pub jobs: [Job; 128],
 }

@@ -94,7 +94,7 @@ fn planned(farm: Farm, job: Job) -> Decision
     let jobs = plan.jobs;
     if !plan.ok {
         return Decision {
-            accepted: false,
+            granted: false,
             answer: Answer::No(Question::Walk),
             jobs,
         };
@@ -102,7 +102,7 @@ fn planned(farm: Farm, job: Job) -> Decision
     let place = plan.place;
     let new = jobs[place];
     Decision {
-        accepted: true,
+        granted: true,
         answer: yes(costs, new),
         jobs,
     }
@@ -146,7 +146,7 @@ impl Farm {
         }
         let decision = self.offer_unchecked(offer);
         let mut farm = self;
-        if decision.accepted {
+        if decision.granted {
             let jobs = decision.jobs;
             farm.used += 1;
             farm.waiting += 1;
@@ -169,7 +169,7 @@ impl Farm {
         let first = ask(self, offer, compute);
         match first {
             Asked::No(question) => Decision {
-                accepted: false,
+                granted: false,
                 answer: Answer::No(question),
                 jobs,
             },

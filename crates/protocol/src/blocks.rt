@@ -105,7 +105,7 @@ pub fn answer_block(
                     let decision = farm.offer_unchecked(offered(row));
                     let answer = decision.answer;
                     at = put_answer(out, at, answer);
-                    if decision.accepted {
+                    if decision.granted {
                         let jobs = decision.jobs;
                         farm.used += 1;
                         farm.waiting += 1;
