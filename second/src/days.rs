@@ -1,15 +1,19 @@
 //! Seeded random days, to compare programs on.
 //!
 //! The writer of a day runs it as it goes, so that it can aim at the edges:
-//! the tick at which a job begins, the least deadline that is granted.
+//! the tick at which a job begins, the least deadline that is granted, the
+//! withdrawal after which an old job fails in the next walk.
 
-use crate::farm::Farm;
+use crate::farm::{Accepted, Farm};
 use crate::limits::*;
 use crate::program::Session;
 use crate::quick::Quick;
 use crate::random::Random;
 use crate::share::Costs;
 use crate::text;
+
+/// The kinds of day, in turn.
+const KINDS: u64 = 8;
 
 /// The bytes of one day.
 pub fn day(seed: u64) -> Vec<u8> {
@@ -20,7 +24,7 @@ pub fn day(seed: u64) -> Vec<u8> {
     if day.random.once_in(3) {
         day.before_opening();
     }
-    match seed % 8 {
+    match seed % KINDS {
         0 => day.tiny(),
         1 => day.tight(),
         2 => day.near_limits(),
@@ -46,10 +50,32 @@ struct Day {
     session: Session<Quick>,
     /// Some offers carry a compute cost.
     mixed: bool,
+    /// Some jobs are withdrawn: in half of the days of each kind.
+    withdrawing: bool,
+    /// So small that the exhaustive walk can run it.
+    tiny: bool,
+}
+
+/// What an offer takes.
+#[derive(Clone, Copy)]
+struct Offer {
+    show: u64,
+    size: u64,
+    deadline: u64,
+    compute: Option<u64>,
 }
 
 /// A number of the greatest length a line may have.
 const LONGEST: u64 = 9_999_999_999_999;
+
+/// How many waiting jobs are tried for one that the others need.
+const TRIED_WAITING: usize = 4;
+
+/// How often three offers are tried.
+const TRIED_OFFERS: usize = 200;
+
+/// More waiting jobs make a try too slow.
+const FEW_WAITING: usize = 12;
 
 // Writing lines, and looking at what they led to.
 impl Day {
@@ -57,6 +83,8 @@ impl Day {
         let mut random = Random::new(seed);
         Day {
             mixed: !random.once_in(4),
+            withdrawing: seed / KINDS % 2 == 1,
+            tiny: false,
             random,
             bytes: Vec::new(),
             session: Session::default(),
@@ -98,6 +126,10 @@ impl Day {
         self.line(b"clock", &[time]);
     }
 
+    fn withdraw(&mut self, job: u64) {
+        self.line(b"withdraw", &[job]);
+    }
+
     /// The day's bytes, sometimes without the last newline.
     fn end(mut self) -> Vec<u8> {
         if self.random.once_in(4) {
@@ -119,6 +151,16 @@ impl Day {
         farm.map_or_else(Vec::new, |farm| farm.starts().collect())
     }
 
+    /// The waiting jobs' numbers.
+    fn numbers(&self) -> Vec<u64> {
+        let farm = self.session.farm();
+        farm.map_or_else(Vec::new, |farm| farm.numbers().collect())
+    }
+
+    fn numbers_used(&self) -> u64 {
+        self.session.farm().map_or(0, Farm::numbers_used)
+    }
+
     fn some_show(&mut self) -> u64 {
         let shows = self.session.farm().map_or(1, Farm::show_count);
         self.random.between(1, shows)
@@ -128,11 +170,21 @@ impl Day {
     fn farm_compute(&self) -> u64 {
         self.session.farm().map_or(9, |farm| farm.costs().compute)
     }
+}
 
-    /// A deadline that is granted while the tick before it is refused.
-    fn least_deadline(&self, show: u64, size: u64, compute: Option<u64>) -> Option<u64> {
-        let farm = self.session.farm()?;
-        let granted = |deadline| farm.clone().offer(show, size, deadline, compute).is_ok();
+impl Offer {
+    fn by(self, deadline: u64) -> Self {
+        Offer { deadline, ..self }
+    }
+
+    fn on(self, farm: &mut Farm<Quick>) -> Option<Accepted> {
+        let Offer { show, size, .. } = self;
+        farm.offer(show, size, self.deadline, self.compute).ok()
+    }
+
+    /// By a deadline that is granted while the tick before it is refused.
+    fn by_least(self, farm: &Farm<Quick>) -> Option<Self> {
+        let granted = |deadline| self.by(deadline).on(&mut farm.clone()).is_some();
         let (mut refused, mut least) = (farm.clock(), LAST_TICK);
         if !granted(least) {
             return None;
@@ -145,7 +197,18 @@ impl Day {
                 refused = middle;
             }
         }
-        Some(least)
+        Some(self.by(least))
+    }
+
+    /// By the very tick at which it finishes on few nodes: one, and for each
+    /// step about one more.
+    fn by_finish(self, farm: &Farm<Quick>, steps: u64) -> Option<Self> {
+        let mut offer = self.by(LAST_TICK);
+        for _ in 0..=steps {
+            let finish = offer.on(&mut farm.clone())?.finish;
+            offer = self.by(finish - 1);
+        }
+        Some(offer.by(offer.deadline + 1))
     }
 }
 
@@ -153,6 +216,7 @@ impl Day {
 impl Day {
     /// Few nodes, small numbers, many equal deadlines and free times.
     fn tiny(&mut self) {
+        self.tiny = true;
         let r = &mut self.random;
         let costs = Costs {
             send: r.between(1, 3),
@@ -164,6 +228,10 @@ impl Day {
         let allowances: Vec<u64> = (0..r.between(1, 3)).map(|_| r.between(0, 40)).collect();
         self.open(nodes, costs, &allowances);
         for _ in 0..self.random.between(8, 30) {
+            if self.withdraws_once_in(4) {
+                self.withdrawal();
+                continue;
+            }
             let show = self.some_show();
             let r = &mut self.random;
             let (size, tens, any) = (r.between(1, 7), r.between(1, 4), r.between(2, 40));
@@ -191,6 +259,9 @@ impl Day {
             let size = self.random.between(1, 400);
             let compute = self.some_compute();
             self.job_at_the_edge(show, size, compute);
+            if self.withdraws_once_in(3) {
+                self.withdrawal();
+            }
             match self.random.between(0, 5) {
                 0 => self.clock_near_a_start(),
                 1 => self.stray(),
@@ -213,6 +284,10 @@ impl Day {
             );
         }
         for _ in 0..self.random.between(10, 60) {
+            if self.withdraws_once_in(5) {
+                self.withdrawal();
+                continue;
+            }
             let show = self.some_show();
             let size = self.near(1, MOST_UNITS);
             let deadline = self.near(1, LAST_TICK);
@@ -234,12 +309,14 @@ impl Day {
         self.accounts();
     }
 
-    /// 128 jobs wait and more are offered; then some begin and more come.
+    /// 128 jobs wait and more are offered; then some begin or are withdrawn and
+    /// more come.
     fn full_queue(&mut self) {
         let nodes = self.random.between(1, 64);
         self.open_middling(nodes);
         let horizon = self.random.pick(&[1_000_000, 10_000_000, LAST_TICK / 2]);
         for _ in 0..self.random.between(1, 3) {
+            let needed = self.needed_in_front();
             let mut beyond = 0;
             // A mixed day refuses more, so not every offer makes the queue longer.
             for _ in 0..2 * MOST_WAITING {
@@ -253,6 +330,9 @@ impl Day {
                     break;
                 }
             }
+            if self.withdrawing {
+                self.room_for_more(horizon, needed);
+            }
             for _ in 0..self.random.between(1, 12) {
                 self.stray();
                 self.clock_near_a_start();
@@ -264,7 +344,8 @@ impl Day {
     }
 
     /// Every job takes one unit on each node, so that the lines a move would
-    /// issue can be counted beforehand: about 1,024.
+    /// issue can be counted beforehand: about 1,024. A withdrawal takes some of
+    /// them away.
     fn full_timetable(&mut self) {
         let r = &mut self.random;
         let nodes = r.pick(&[64, 63, 50, 32, 16, 9, 8]);
@@ -289,9 +370,16 @@ impl Day {
             let place = starts.len().saturating_sub(back);
             let start = starts.get(place).copied().unwrap_or(1);
             self.clock_to(start.saturating_sub(1));
+            if self.withdraws_once_in(2) {
+                self.withdrawal();
+            }
             self.stray();
         }
         self.clock_to(deadline);
+        if self.withdrawing {
+            self.withdraw_waiting();
+            self.clock_to(deadline);
+        }
         self.accounts();
     }
 
@@ -359,6 +447,9 @@ impl Day {
     }
 
     fn middling_line(&mut self, nodes: u64) {
+        if self.withdraws_once_in(6) {
+            return self.withdrawal();
+        }
         let show = self.some_show();
         let r = &mut self.random;
         let size = r.of_any_length(600).max(1);
@@ -382,7 +473,14 @@ impl Day {
     /// The least deadline granted, and often the tick before it or a compute
     /// cost just beside.
     fn job_at_the_edge(&mut self, show: u64, size: u64, compute: Option<u64>) {
-        let Some(deadline) = self.least_deadline(show, size, compute) else {
+        let offer = Offer {
+            show,
+            size,
+            deadline: LAST_TICK,
+            compute,
+        };
+        let farm = self.session.farm();
+        let Some(Offer { deadline, .. }) = farm.and_then(|farm| offer.by_least(farm)) else {
             return self.job_at(show, size, LAST_TICK, compute);
         };
         if self.random.once_in(2) {
@@ -419,6 +517,9 @@ impl Day {
     /// More than a program reads at once.
     fn many_short_lines(&mut self) {
         for _ in 0..self.random.between(5_000, 12_000) {
+            if self.withdraws_once_in(20) {
+                self.withdraw_wrong();
+            }
             let show = self.some_show();
             match self.random.between(0, 9) {
                 0 => self.clock_to(self.clock() + show),
@@ -434,7 +535,10 @@ impl Day {
         let wrong_show = self.wrong_show();
         let r = &mut self.random;
         let wrong_time = r.pick(&[clock.wrapping_sub(1).min(LAST_TICK + 1), LAST_TICK + 1]);
-        match r.between(0, 11) {
+        if self.withdraws_once_in(8) {
+            return self.withdraw_wrong();
+        }
+        match self.random.between(0, 11) {
             0..=4 => self.wrong_job(),
             5 => self.job_too_large(),
             6 => self.clock_to(wrong_time),
@@ -581,12 +685,167 @@ impl Day {
     }
 }
 
+// Withdrawals.
+impl Day {
+    /// True once in so many times on a day with withdrawals.
+    fn withdraws_once_in(&mut self, times: u64) -> bool {
+        self.withdrawing && self.random.once_in(times)
+    }
+
+    fn some_waiting(&mut self) -> Option<u64> {
+        let numbers = self.numbers();
+        (!numbers.is_empty()).then(|| self.random.pick(&numbers))
+    }
+
+    /// Mostly of a waiting job, and mostly an offer or two behind it.
+    fn withdrawal(&mut self) {
+        match self.random.between(0, 9) {
+            0..=3 => self.withdraw_waiting(),
+            4..=6 => self.withdraw_needed(),
+            7 => (0..self.random.between(2, 5)).for_each(|_| self.withdraw_waiting()),
+            _ => self.withdraw_wrong(),
+        }
+        for _ in 0..self.random.pick(&[0, 1, 1, 2]) {
+            self.small_job();
+        }
+    }
+
+    /// Sometimes the job just gone is asked for once more. Where none waits one
+    /// is offered instead.
+    fn withdraw_waiting(&mut self) {
+        let Some(job) = self.some_waiting() else {
+            return self.small_job();
+        };
+        self.withdraw(job);
+        if self.random.once_in(4) {
+            self.withdraw(job);
+        }
+    }
+
+    /// A begun job, a gone one, the next one, or no job's number at all.
+    fn withdraw_wrong(&mut self) {
+        let (numbers, used) = (self.numbers(), self.numbers_used());
+        let over: Vec<u64> = (1..=used).filter(|job| !numbers.contains(job)).collect();
+        let r = &mut self.random;
+        let unknown = r.pick(&[0, used + 1, used + 2, LAST_TICK, LAST_TICK + 1, LONGEST]);
+        let job = if over.is_empty() || r.once_in(3) {
+            unknown
+        } else {
+            r.pick(&over)
+        };
+        self.withdraw(job);
+    }
+
+    /// A withdrawal after which the old jobs can no longer be walked, if one is
+    /// found: of a job that waits already, or of one offered for that.
+    fn withdraw_needed(&mut self) {
+        for _ in 0..TRIED_WAITING {
+            let waiting = self.some_waiting().zip(self.session.farm());
+            if let Some((job, _)) = waiting.filter(|(job, farm)| is_needed(farm, *job)) {
+                return self.withdraw(job);
+            }
+        }
+        match self.offer_needed() {
+            Some(job) => self.withdraw(job),
+            None => self.withdraw_waiting(),
+        }
+    }
+
+    /// Offers a job that others need, with these, and answers its number; none
+    /// where nothing of the kind is found.
+    fn offer_needed(&mut self) -> Option<u64> {
+        if self.waiting() > FEW_WAITING {
+            return None;
+        }
+        let offers = (0..TRIED_OFFERS).find_map(|_| self.offers_with_a_needed_one())?;
+        for offer in offers {
+            self.job_at(offer.show, offer.size, offer.deadline, offer.compute);
+        }
+        Some(self.numbers_used() - 2)
+    }
+
+    /// Three offers of which the second needs more nodes behind the first than
+    /// without it and so ends sooner on them, which the third needs.
+    fn offers_with_a_needed_one(&mut self) -> Option<[Offer; 3]> {
+        let most = if self.tiny { [1, 6, 9] } else { [5, 100, 300] };
+        let tried = most.map(|units| self.offer_of(units));
+        let steps = self.random.between(0, 2);
+        let farm = self.session.farm()?;
+        let second = tried[1].by_finish(farm, steps)?;
+        let nodes = second.on(&mut farm.clone())?.nodes;
+        let first = tried[0].by_finish(farm, 0)?;
+        let mut next = farm.clone();
+        let needed = first.on(&mut next)?.job;
+        if second.on(&mut next)?.nodes == nodes {
+            return None;
+        }
+        let third = tried[2].by_least(&next)?;
+        third.on(&mut next)?;
+        is_needed(&next, needed).then_some([first, second, third])
+    }
+
+    fn offer_of(&mut self, most_units: u64) -> Offer {
+        let show = self.some_show();
+        let size = self.random.between(1, most_units);
+        let compute = if self.tiny {
+            self.tiny_compute()
+        } else {
+            self.some_compute()
+        };
+        Offer {
+            show,
+            size,
+            deadline: LAST_TICK,
+            compute,
+        }
+    }
+
+    /// Hardly ever the cause of a refusal by itself.
+    fn small_job(&mut self) {
+        let show = self.some_show();
+        let size = self.random.between(1, 3);
+        let compute = self.tiny_compute();
+        match self.random.between(0, 3) {
+            0 => self.job_at_the_edge(show, size, compute),
+            1 => self.job_at(show, size, self.clock() + 20 * size, compute),
+            _ => self.job_at(show, size, LAST_TICK, compute),
+        }
+    }
+
+    /// On half of the days with withdrawals, before the queue fills up.
+    fn needed_in_front(&mut self) -> Option<u64> {
+        let wanted = self.withdraws_once_in(2);
+        wanted.then(|| self.offer_needed()).flatten()
+    }
+
+    /// Withdrawals from a full queue, and offers that fill it again; last of all
+    /// a job is withdrawn that others need, and offers are in vain.
+    fn room_for_more(&mut self, horizon: u64, needed: Option<u64>) {
+        for _ in 0..self.random.between(3, 20) {
+            self.withdrawal();
+            for _ in 0..self.random.between(0, 3) {
+                let show = self.some_show();
+                let r = &mut self.random;
+                let (size, wait) = (r.between(1, 50), r.between(horizon / 2, horizon));
+                self.job(show, size, self.clock() + wait);
+            }
+        }
+        if let Some(job) = needed {
+            self.withdraw(job);
+            (0..3).for_each(|_| self.small_job());
+        }
+    }
+}
+
 // Damage.
 impl Day {
     /// A line with something wrong in it, mostly: some damage is harmless.
     fn damaged_line(&mut self) {
         if self.mixed && self.random.once_in(4) {
             return self.odd_compute();
+        }
+        if self.withdraws_once_in(4) {
+            return self.odd_withdrawal();
         }
         let mut line = self.good_line();
         for _ in 0..self.random.pick(&[1, 1, 1, 2, 3]) {
@@ -624,7 +883,53 @@ impl Day {
         self.raw(&line);
     }
 
+    /// Whatever may stand around the number of a job, a waiting one if there is
+    /// any, so that reading it wrongly takes that job away.
+    fn odd_withdrawal(&mut self) {
+        let job = self.some_waiting().unwrap_or(1);
+        let (before, after) = self.random.pick(&[
+            ("withdraw\t", "\t"),
+            ("withdraw\t", "\t7"),
+            ("withdraw\t", "\t\t"),
+            ("withdraw\t\t", ""),
+            ("withdraw\t0\t", ""),
+            ("withdraw\t00", ""),
+            ("withdraw\t+", ""),
+            ("withdraw\t-", ""),
+            ("withdraw\t ", ""),
+            ("withdraw\t", " "),
+            ("withdraw\t", "\r"),
+            ("withdraw\t", "\0"),
+            ("withdraw\t", ".0"),
+            ("withdraw\t", "a"),
+            ("withdraw ", ""),
+            ("withdraw", ""),
+            ("\twithdraw\t", ""),
+            (" withdraw\t", ""),
+            ("Withdraw\t", ""),
+            ("withdrawn\t", ""),
+            ("withdra\t", ""),
+            ("gone\t", ""),
+        ]);
+        let around = format!("{before}{job}{after}");
+        let of_13_digits = format!("withdraw\t{job:013}");
+        let of_14_digits = format!("withdraw\t{job:014}");
+        let line = match self.random.between(0, 11) {
+            0 => "withdraw",
+            1 => "withdraw\t",
+            2 => "withdraw\t10000000000000",
+            3 => &of_13_digits,
+            4 => &of_14_digits,
+            _ => &around,
+        };
+        self.raw(line.as_bytes());
+    }
+
     fn good_line(&mut self) -> Vec<u8> {
+        if self.withdraws_once_in(4) {
+            let job = self.some_waiting().unwrap_or(1);
+            return line(b"withdraw", &[job]);
+        }
         let show = self.some_show();
         let compute = self.some_compute();
         let time = self.clock() + self.random.between(0, 3);
@@ -682,6 +987,13 @@ impl Day {
         }
         line
     }
+}
+
+/// Whether another waiting job fails in a walk without this one. One unit by the
+/// last tick comes behind all of them, and fits there unless time is nearly over.
+fn is_needed(farm: &Farm<Quick>, job: u64) -> bool {
+    let mut farm = farm.clone();
+    farm.withdraw(job).is_ok() && farm.offer(1, 1, LAST_TICK, None).is_err()
 }
 
 fn line(kind: &[u8], numbers: &[u64]) -> Vec<u8> {

@@ -106,6 +106,7 @@ impl<W: Walk> Farm<W> {
         let booked = self.walk.book(&self.begun, &mut self.plan, new);
         ask(booked, Refusal::NotBookable)?;
         self.numbers_used = new.number;
+        self.plan.as_walked = self.waiting();
         Ok(self.accepted(new))
     }
 
@@ -145,6 +146,7 @@ impl<W: Walk> Farm<W> {
         let issued = plan.chunks.range(..chunks);
         self.begun.ranking = self.begun.ranking.after(issued.map(|chunk| chunk.free));
         self.begun.link_free = plan.chunks[chunks - 1].send_end;
+        plan.as_walked = plan.as_walked.saturating_sub(jobs);
         let mut issued = plan.chunks.drain(..chunks);
         for booking in plan.bookings.drain(..jobs) {
             let held = &mut self.shows[booking.job.show as usize - 1].ticks;
@@ -152,6 +154,14 @@ impl<W: Walk> Farm<W> {
                 *held += chunk.free.time() - booking.start;
             }
         }
+    }
+
+    /// Takes a waiting job out of the plan. Nothing is walked, and its number
+    /// stays used.
+    pub fn withdraw(&mut self, job: u64) -> Result<(), Refusal> {
+        let place = self.numbers().position(|number| number == job);
+        self.plan.remove(place.ok_or(Refusal::NotWaiting)?);
+        Ok(())
     }
 
     pub fn account(&self, show: u64) -> Result<Account, Refusal> {
@@ -194,6 +204,16 @@ impl<W: Walk> Farm<W> {
 
     pub fn waiting(&self) -> usize {
         self.plan.bookings.len()
+    }
+
+    /// The greatest job number so far, 0 before one.
+    pub fn numbers_used(&self) -> u64 {
+        self.numbers_used
+    }
+
+    /// The number of each waiting job, in the plan's order.
+    pub fn numbers(&self) -> impl Iterator<Item = u64> + '_ {
+        self.plan.bookings.iter().map(|booking| booking.job.number)
     }
 
     /// The start of each waiting job, in order.

@@ -72,12 +72,24 @@ pub struct Begun {
 pub struct Plan {
     pub bookings: VecDeque<Booking>,
     pub chunks: VecDeque<Chunk>,
+    /// The first so many bookings are what a walk would give them again. Those
+    /// behind a withdrawn one met free times that are now earlier.
+    pub as_walked: usize,
 }
 
 impl Plan {
     /// The number of chunks of the first bookings.
     pub fn chunks_of_first(&self, bookings: usize) -> usize {
         self.bookings.range(..bookings).map(|b| b.nodes).sum()
+    }
+
+    /// Takes one booking out; the others stay as they are.
+    pub fn remove(&mut self, place: usize) {
+        let first = self.chunks_of_first(place);
+        if let Some(booking) = self.bookings.remove(place) {
+            self.chunks.drain(first..first + booking.nodes);
+            self.as_walked = self.as_walked.min(place);
+        }
     }
 
     /// Writes the timetable lines of the first bookings.

@@ -33,12 +33,14 @@ pub fn long_days() -> Vec<LongDay> {
         queue_day(
             "loose deadlines, full queue",
             6_000,
+            begin_a_few,
             no_compute,
             loose_deadline,
         ),
         queue_day(
             "tight deadlines, full queue",
             6_000,
+            begin_a_few,
             no_compute,
             tight_deadline,
         ),
@@ -46,8 +48,16 @@ pub fn long_days() -> Vec<LongDay> {
         queue_day(
             "mixed compute costs, full queue",
             6_000,
+            begin_a_few,
             speech_or_music,
             tight_deadline,
+        ),
+        queue_day(
+            "withdrawals, full queue",
+            6_000,
+            withdraw_mostly,
+            no_compute,
+            loose_deadline,
         ),
     ]
 }
@@ -93,6 +103,15 @@ impl Writer {
         self.line(b"job", &numbers.collect::<Vec<u64>>());
     }
 
+    fn waiting(&self) -> usize {
+        self.session.farm().map_or(0, Farm::waiting)
+    }
+
+    fn numbers(&self) -> Vec<u64> {
+        let farm = self.session.farm();
+        farm.map_or_else(Vec::new, |farm| farm.numbers().collect())
+    }
+
     fn starts(&self) -> Vec<u64> {
         let farm = self.session.farm();
         farm.map_or_else(Vec::new, |farm| farm.starts().collect())
@@ -103,19 +122,18 @@ impl Writer {
     }
 }
 
-/// Offers with about 120 jobs waiting; a clock move lets a few begin whenever
-/// more wait.
+/// Offers with about 120 jobs waiting; whenever more wait, room is made.
 fn queue_day(
     name: &'static str,
     lines: usize,
+    make_room: fn(&mut Writer),
     compute: fn(&mut Random) -> Option<u64>,
     deadline: fn(&mut Writer, Costs, size: u64) -> u64,
 ) -> LongDay {
     let mut writer = Writer::new(name);
     while writer.day.lines < lines {
-        let starts = writer.starts();
-        if starts.len() > WAITING {
-            writer.line(b"clock", &[starts[3]]);
+        if writer.waiting() > WAITING {
+            make_room(&mut writer);
         }
         let show = writer.random.between(1, 8);
         let size = writer.random.between(20, 400);
@@ -125,6 +143,24 @@ fn queue_day(
         writer.job(show, size, deadline, own);
     }
     writer.day
+}
+
+/// A clock move lets a few begin.
+fn begin_a_few(writer: &mut Writer) {
+    let fourth = writer.starts()[3];
+    writer.line(b"clock", &[fourth]);
+}
+
+/// Any waiting job is withdrawn, so that withdrawals and offers alternate; now
+/// and then the clock moves on. Deadlines must be loose: tight ones would make
+/// an old job fail, and every offer behind that would be in vain.
+fn withdraw_mostly(writer: &mut Writer) {
+    if writer.random.once_in(16) {
+        return begin_a_few(writer);
+    }
+    let numbers = writer.numbers();
+    let job = writer.random.pick(&numbers);
+    writer.line(b"withdraw", &[job]);
 }
 
 fn no_compute(_: &mut Random) -> Option<u64> {

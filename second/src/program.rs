@@ -66,6 +66,10 @@ impl<W: Walk> Session<W> {
                 }
                 text::print(answers, b"clock", &[time, issued as u64]);
             }
+            (b"withdraw", &[job], Some(farm)) => {
+                farm.withdraw(job)?;
+                text::print(answers, b"gone", &[job]);
+            }
             (b"account", &[show], Some(farm)) => {
                 let account = farm.account(show)?;
                 text::print(answers, b"account", &[show, account.held, account.charged]);

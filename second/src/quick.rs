@@ -6,6 +6,9 @@
 //! none before, and jobs begin from the front of the plan, so the free times
 //! they meet are the ones they met before. Each is booked by its own costs, so
 //! the new job's make no difference to them.
+//!
+//! Since the last walk a job may have been withdrawn. Those behind it then meet
+//! other free times, so none of them is kept: one may move, or even fail.
 
 use crate::job::{Begun, Booking, Chunk, Job, Plan, Walk};
 use crate::node::{FreeNode, MovingRanking};
@@ -31,7 +34,7 @@ pub struct Whole(Quick);
 
 impl Walk for Quick {
     fn book(&mut self, begun: &Begun, plan: &mut Plan, new: Job) -> bool {
-        let kept = place_of(plan, new);
+        let kept = place_of(plan, new).min(plan.as_walked);
         self.book_behind(begun, plan, new, kept)
     }
 }

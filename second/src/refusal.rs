@@ -14,6 +14,7 @@ pub enum Refusal {
     Time = 9,
     TimetableFull = 10,
     Unreadable = 11,
+    NotWaiting = 12,
 }
 
 impl Refusal {

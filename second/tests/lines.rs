@@ -17,7 +17,7 @@ fn answer(line: &[u8]) -> Vec<u8> {
 
 #[test]
 fn another_shape_is_unreadable() {
-    let shapes: [&[u8]; 27] = [
+    let shapes: [&[u8]; 40] = [
         b"",
         b"\t",
         b"job",
@@ -45,10 +45,24 @@ fn another_shape_is_unreadable() {
         b"account\t1\t1",
         b"account\t",
         b"farm\t1\t1\t1\t0\t0\t0",
+        b"withdraw",
+        b"withdraw\t",
+        b"withdraw\t1\t",
+        b"withdraw\t\t1",
+        b"withdraw\t1\t1",
+        b"withdraw\t00000000000001",
+        b"withdraw\t1\r",
+        b"withdraw\t-1",
+        b"withdraw 1",
+        b"withdraw1",
+        b"Withdraw\t1",
+        b"withdrawn\t1",
+        b"gone\t1",
     ];
     for shape in shapes {
         assert_eq!(answer(shape), b"no\t11\n", "{}", shape.escape_ascii());
     }
+    assert_eq!(answer(b"withdraw\t0000000000001"), b"no\t12\n");
     assert_eq!(answer(b"job\t01\t001\t0000000000030"), b"yes\t1\t0\t3\t1\n");
     assert_eq!(answer(b"job\t1\t1\t30\t01"), b"yes\t1\t0\t2\t1\n");
     assert_eq!(

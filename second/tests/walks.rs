@@ -24,7 +24,7 @@ fn tiny_days_are_answered_alike() {
 /// After every call the two farms must show the same waiting bookings.
 #[test]
 fn tiny_farms_show_the_same_timetables() {
-    let mut granted = 0;
+    let (mut granted, mut withdrawn) = (0, 0);
     for seed in 0..1_000 {
         let mut random = Random::new(seed);
         let costs = Costs {
@@ -45,6 +45,13 @@ fn tiny_farms_show_the_same_timetables() {
             assert_eq!(yes, exhaustive.offer(1, size, deadline, compute));
             granted += u64::from(yes.is_ok());
             assert_eq!(waiting(&quick), waiting(&exhaustive), "seed {seed}");
+            if random.once_in(4) {
+                let job = random.between(0, quick.numbers_used() + 1);
+                let gone = quick.withdraw(job);
+                assert_eq!(gone, exhaustive.withdraw(job));
+                withdrawn += u64::from(gone.is_ok());
+                assert_eq!(waiting(&quick), waiting(&exhaustive), "seed {seed}");
+            }
             if random.once_in(3) {
                 let time = quick.clock() + random.between(0, 9);
                 let mut lines = [[Record::default(); 400]; 2];
@@ -55,6 +62,7 @@ fn tiny_farms_show_the_same_timetables() {
         }
     }
     assert!(granted > 3_000, "only {granted} offers granted");
+    assert!(withdrawn > 500, "only {withdrawn} jobs withdrawn");
 }
 
 fn waiting<W: Walk>(farm: &Farm<W>) -> Vec<Record> {

@@ -1,4 +1,4 @@
--- A list of offers and clock moves after a granted opening, each given the farm that the one before it handed back, and what is noted
+-- A list of offers, withdrawals and clock moves after a granted opening, each given the farm that the one before it handed back, and what is noted
 -- of it. Everything here is a definition; nothing is assumed.
 use Prim.Native.Nat.{ℕ, zero, suc, _+_, _≤_, max}
 use mathlib.Core.Path.{_≡_}
@@ -14,24 +14,27 @@ use Rattle.walk.specs.declared.Chunk.{Chunk}
 use Rattle.planner.specs.declared.Farm.{Farm}
 use Rattle.planner.specs.declared.Offer.{Offer}
 use Rattle.planner.specs.Model.{withCompute, Span, linesOf, spansOf, waitingOf}
-use Rattle.planner.specs.Calls.{Said, ofNumber, computeOf, planned, offerSaid, offerFarm}
+use Rattle.planner.specs.Calls.{Said, ofNumber, computeOf, planned, offerSaid, offerFarm, withdrawSaid, withdrawFarm}
 use Rattle.planner.specs.Clock.{holds, moveSaid, moveFarm, moveMemory}
 
 -- ---- A call
 
--- an offer; or a move to a time, lent a timetable of any length and contents
+-- an offer; the withdrawal of a job by its number; or a move to a time, lent a timetable of any length and contents
 pub data Call : Type 0 where
   offer : Offer → Call
+  withdraw : ℕ → Call
   move : ℕ → List Chunk → Call
 
 -- what it answers
 abbrev pub reply : Farm → Call → Said
 reply f (offer o) = offerSaid f o
+reply f (withdraw n) = withdrawSaid f n
 reply f (move t m) = moveSaid f t (length m)
 
 -- the farm that it hands back
 abbrev pub handed : Farm → Call → Farm
 handed f (offer o) = offerFarm f o
+handed f (withdraw n) = withdrawFarm f n
 handed f (move t m) = moveFarm f t (length m)
 
 -- whether all its questions were answered yes
@@ -45,6 +48,7 @@ withStart f x = record { from = ofNumber (x .job) (waitingOf f) .booking .start;
 -- the chunks that it issues: as many records as it answers, from the front of the memory that it hands back
 abbrev pub linesBy : Farm → Call → List Span
 linesBy f (offer o) = []
+linesBy f (withdraw n) = []
 linesBy f (move t m) = cond (isGranted f (move t m)) (map (withStart f) (take (getD (moveSaid f t (length m) .values) 1 0) (moveMemory f t m))) []
 
 -- a job as it was accepted
@@ -58,31 +62,42 @@ pub record Accepted : Type 0 where
 -- the job that it accepts, with the number that it answers and the compute cost that is given or the farm's
 abbrev pub jobsBy : Farm → Call → List Accepted
 jobsBy f (offer o) = cond (isGranted f (offer o)) (record { number = getD (offerSaid f o .values) 0 0; show = o .show; size = o .size; compute = computeOf f o; deadline = o .deadline } ∷ []) []
+jobsBy f (withdraw n) = []
 jobsBy f (move t m) = []
+
+-- the number of the job that it withdraws: the one that it answers
+abbrev pub goneBy : Farm → Call → List ℕ
+goneBy f (offer o) = []
+goneBy f (withdraw n) = cond (isGranted f (withdraw n)) (getD (withdrawSaid f n .values) 0 0 ∷ []) []
+goneBy f (move t m) = []
 
 -- the plan of the latest walk that replaced the plan: that of a granted offer, else the former
 abbrev pub planBy : Farm → List Job → Call → List Job
 planBy f js (offer o) = cond (isGranted f (offer o)) (planned f o) js
+planBy f js (withdraw n) = js
 planBy f js (move t m) = js
 
 -- the time of the last granted clock move
 abbrev pub timeBy : Farm → ℕ → Call → ℕ
 timeBy f u (offer o) = u
+timeBy f u (withdraw n) = u
 timeBy f u (move t m) = cond (isGranted f (move t m)) t u
 
 -- ---- A list of calls
 
--- the farm, and what was noted: every chunk issued, every job accepted, the latest plan, and the time of the last granted move
+-- the farm, and what was noted: every chunk issued, every job accepted, the number of every job withdrawn, the latest plan, and the time of the last granted
+-- move
 pub record History : Type 0 where
   pub farm : Farm
   pub lines : List Span
   pub jobs : List Accepted
+  pub gone : List ℕ
   pub latest : List Job
   pub time : ℕ
 
 -- after an opening that handed this farm back
 abbrev pub opening : Farm → History
-opening f = record { farm = f; lines = []; jobs = []; latest = []; time = 0 }
+opening f = record { farm = f; lines = []; jobs = []; gone = []; latest = []; time = 0 }
 
 -- after one call more
 abbrev pub note : History → Call → History
@@ -90,6 +105,7 @@ note w c = record {
   farm = handed (w .farm) c;
   lines = w .lines ++ linesBy (w .farm) c;
   jobs = w .jobs ++ jobsBy (w .farm) c;
+  gone = w .gone ++ goneBy (w .farm) c;
   latest = planBy (w .farm) (w .latest) c;
   time = timeBy (w .farm) (w .time) c;
 }
@@ -166,7 +182,14 @@ pub record Waits (x : Accepted) (f : Farm) : Type 0 where
 -- the call is a granted clock move that reaches the start u
 abbrev pub Reaches : Farm → Call → ℕ → Type 0
 Reaches f (offer o) u = ⊥
+Reaches f (withdraw n) u = ⊥
 Reaches f (move t m) u = (isGranted f (move t m) ≡ true) × (u ≤ t)
+
+-- the call is a granted withdrawal of job n
+abbrev pub Withdraws : Farm → Call → ℕ → Type 0
+Withdraws f (offer o) n = ⊥
+Withdraws f (withdraw k) n = (isGranted f (withdraw k) ≡ true) × (k ≡ n)
+Withdraws f (move t m) n = ⊥
 
 -- no chunk of job n is among these
 abbrev pub NoneOf : ℕ → List Span → Type 0
@@ -181,9 +204,12 @@ IssuesNone n f (c ∷ cs) = NoneOf n (linesBy f c) × IssuesNone n (handed f c) 
 pub data Lifecycle (x : Accepted) : Farm → List Call → Type 0 where
   -- it waits where the list ends
   waits : {f : Farm} → Waits x f → Lifecycle x f []
-  -- it waits, and the call is no granted clock move that reaches the start it has then, and issues no chunk of it
-  passes : {f : Farm} {c : Call} {cs : List Call} (h : Waits x f) → (Reaches f c (h .job .booking .start) → ⊥) → NoneOf (x .number) (linesBy f c) → Lifecycle x (handed f c) cs
-      → Lifecycle x f (c ∷ cs)
+  -- it waits, and the call is no granted clock move that reaches the start it has then and no granted withdrawal of it, and issues no chunk of it
+  passes : {f : Farm} {c : Call} {cs : List Call} (h : Waits x f) → (Reaches f c (h .job .booking .start) → ⊥) → (Withdraws f c (x .number) → ⊥) → NoneOf (x .number) (linesBy f c)
+      → Lifecycle x (handed f c) cs → Lifecycle x f (c ∷ cs)
   -- it waits, and the call is a granted clock move that reaches the start it has then: all its chunks are issued, each once, and none later
   begins : {f : Farm} {c : Call} {cs : List Call} (h : Waits x f) → Reaches f c (h .job .booking .start) → linesFor (x .number) (linesBy f c) ≡ spansOf (f .costs) (h .job)
       → IssuesNone (x .number) (handed f c) cs → Lifecycle x f (c ∷ cs)
+  -- it waits, and the call is a granted withdrawal of it: no chunk of it is issued then or later
+  withdrawn : {f : Farm} {c : Call} {cs : List Call} (h : Waits x f) → Withdraws f c (x .number) → NoneOf (x .number) (linesBy f c) → IssuesNone (x .number) (handed f c) cs
+      → Lifecycle x f (c ∷ cs)

@@ -1,8 +1,10 @@
--- Cases A to M of document 01, "Windows to try", and cases of a job's own compute cost, each a table and a theorem about the model. The checker works
--- each row out.
+-- Cases A to M of document 01, "Windows to try", cases of a job's own compute cost, and cases of a withdrawal, each a table and a theorem about the model.
+-- The checker works each row out.
 use Prim.Native.Nat.{ℕ, _+_}
 use mathlib.Core.Path.{_≡_, refl}
-use mathlib.Core.List.{List, [], _∷_}
+use mathlib.Core.List.{List, [], _∷_, _++_}
+use mathlib.Core.Bool.{false}
+use lib.ListN.{replicate}
 use Rattle.lists.specs.Laws.{All}
 use Rattle.shares.specs.declared.Costs.{Costs}
 use Rattle.shares.specs.Model.{finish, sum, first, left, capacity, cut, greedy, earliest}
@@ -10,24 +12,28 @@ use Rattle.keys.specs.Model.{noLater, insertKey, sortOnto}
 use Rattle.booking.specs.Best.{units}
 use Rattle.booking.specs.Model.{nodeKeys, ranked, search, bookingOf, bookedAt, bookOf}
 use Rattle.soundness.specs.Model.{noneOf, allDiffer, jobWithin, sharesKept, jobKept, jobPasses, jobsPass}
+use Rattle.walk.specs.declared.Chunk.{Chunk}
 use Rattle.planner.specs.declared.Farm.{Farm}
 use Rattle.planner.specs.declared.Offer.{Offer}
 use Rattle.limits.specs.Model.{allAtMost, allAtLeast, costsWithin}
-use Rattle.planner.specs.Model.{chunksFrom, spansOfAll, afters, waitingOf, keysBy, plan, booksAll, fitAll}
+use Rattle.planner.specs.Model.{chunksFrom, spansOfAll, afters, waitingOf, termsOf, busyOf, byDeadline, keysBy, plan, booksAll, fitAll}
 use Rattle.planner.specs.Passes.{countsWithin, timesWithin, waitingPass, passesOf}
-use Rattle.planner.specs.Calls.{Yes, Said, granted, refused, openFarm, ofNumber, offerOf, offerWith, offerAsked, offerSaid, offerFarm}
+use Rattle.demands.specs.CallLists as call
+use Rattle.demands.specs.CallLists.{Call, handed}
+use Rattle.planner.specs.Calls.{hasNumber, ofNumber, without, Yes, Said, granted, refused, openFarm, offerOf, offerWith, offerAsked, offerSaid, offerFarm, withdrawSaid, withdrawFarm}
+use Rattle.planner.specs.Clock.{keep, raised, linesOfAll, issued, moveAsked, moveFarm}
 
 -- what comes of an offer: the answer, and the shares of the new job in the farm that is handed back (none where it is refused)
 pub record Outcome : Type 0 where
   pub answer : Said
   pub shares : List ℕ
 
--- a row of the table: a farm to open, the offers made before, the offer in question, and what is expected of it
+-- a row of the table: a farm to open, the calls made before, the offer in question, and what is expected of it
 pub record Row : Type 0 where
   pub nodes : ℕ
   pub costs : Costs
   pub allowances : List ℕ
-  pub before : List Offer
+  pub before : List Call
   pub offer : Offer
   pub expected : Outcome
 
@@ -39,10 +45,10 @@ yes j s t k xs = record { answer = granted Yes (j ∷ s ∷ t ∷ k ∷ []); sha
 abbrev pub no : ℕ → Outcome
 no n = record { answer = refused n; shares = [] }
 
--- the farm once each offer of a list is made
-unfoldable pub offered : Farm → List Offer → Farm
-offered f [] = f
-offered f (o ∷ os) = offered (offerFarm f o) os
+-- the farm once each call of a list is made
+unfoldable pub made : Farm → List Call → Farm
+made f [] = f
+made f (c ∷ cs) = made (handed f c) cs
 
 -- an offer made to a farm
 unfoldable pub outcome : Farm → Offer → Outcome
@@ -51,13 +57,21 @@ outcome f o = record {
   shares = units (ofNumber (f .used + 1) (waitingOf (offerFarm f o)) .booking);
 }
 
+-- the farm that the offer in question is made to
+abbrev pub farmOf : Row → Farm
+farmOf r = made (openFarm (r .nodes) (r .costs) (r .allowances)) (r .before)
+
 -- a row as the model has it
 unfoldable pub run : Row → Outcome
-run r = outcome (offered (openFarm (r .nodes) (r .costs) (r .allowances)) (r .before)) (r .offer)
+run r = outcome (farmOf r) (r .offer)
 
 -- the model gives what the row expects
 abbrev pub Right : Row → Type 0
 Right r = run r ≡ r .expected
+
+-- a record of lent memory
+abbrev noChunk : Chunk
+noChunk = record { job = 0; show = 0; node = 0; units = 0; start = 0; sent = 0; finish = 0 }
 
 -- ---- The table
 
@@ -76,13 +90,17 @@ alone n c z w e = record {
   expected = e;
 }
 
--- an offer of size 2 after jobs 1 and 2 of the printed listing, at clock 0
+-- jobs 1 and 2 of the printed listing
+abbrev pub listed : List Call
+listed = call.offer (offerOf 1 10 18) ∷ call.offer (offerOf 2 3 20) ∷ []
+
+-- an offer of size 2 after them, at clock 0
 abbrev pub afterListing : ℕ → Outcome → Row
 afterListing d e = record {
   nodes = 3;
   costs = costsOf 1 2 0 0;
   allowances = 30 ∷ 0 ∷ [];
-  before = offerOf 1 10 18 ∷ offerOf 2 3 20 ∷ [];
+  before = listed;
   offer = offerOf 2 2 d;
   expected = e;
 }
@@ -134,7 +152,7 @@ beforeAnother p e = record {
   nodes = 2;
   costs = costsOf 1 4 0 0;
   allowances = 0 ∷ [];
-  before = offerOf 1 2 11 ∷ [];
+  before = call.offer (offerOf 1 2 11) ∷ [];
   offer = offerWith 1 2 6 p;
   expected = e;
 }
@@ -154,12 +172,74 @@ ownCases =
     ∷ beforeAnother 1_000_001 (no 2)
     ∷ []
 
+-- A withdrawal, document 02 (ii): the offer of size 2 after jobs 1 and 2 of the printed listing, one of which was withdrawn, ..
+abbrev pub listedWithout : ℕ → ℕ → Outcome → Row
+listedWithout n d e = record {
+  nodes = 3;
+  costs = costsOf 1 2 0 0;
+  allowances = 30 ∷ 0 ∷ [];
+  before = listed ++ call.withdraw n ∷ [];
+  offer = offerOf 2 2 d;
+  expected = e;
+}
+
+-- .. and one unit by tick 40, after three jobs on two nodes and these calls
+abbrev pub lateUnit : List Call → Outcome → Row
+lateUnit cs e = record {
+  nodes = 2;
+  costs = costsOf 1 1 0 0;
+  allowances = 0 ∷ [];
+  before = call.offer (offerOf 1 1 2) ∷ call.offer (offerOf 1 5 10) ∷ call.offer (offerOf 1 8 20) ∷ cs;
+  offer = offerOf 1 1 40;
+  expected = e;
+}
+
+-- jobs 1 to 3 start at 0, 2 and 9; once job 1 is withdrawn a walk puts job 2 on one node, from 0 to 10, and what is left is too little for job 3
+abbrev pub oldJobFails : Row
+oldJobFails = lateUnit (call.withdraw 1 ∷ []) (no 8)
+
+abbrev pub withdrawCases : List Row
+withdrawCases =
+    -- what was refused before (12 ticks, and case M) is taken once a job has left
+    listedWithout 1 12 (yes 3 0 6 1 (2 ∷ []))
+    ∷ listedWithout 2 21 (yes 3 10 16 1 (2 ∷ []))
+    -- no job has the number 3, so nothing has left
+    ∷ listedWithout 3 21 (no 8)
+    -- the late unit is taken where nothing has left ..
+    ∷ lateUnit [] (yes 4 19 21 1 (1 ∷ []))
+    -- .. and refused once job 1 has: the walk fails at an old job
+    ∷ oldJobFails
+    -- it is taken again once job 2 has begun as planned, or job 3 has left too
+    ∷ lateUnit (call.withdraw 1 ∷ call.move 2 (replicate 2 noChunk) ∷ []) (yes 4 19 21 1 (1 ∷ []))
+    ∷ lateUnit (call.withdraw 1 ∷ call.withdraw 3 ∷ []) (yes 4 5 7 1 (1 ∷ []))
+    ∷ []
+
 -- every row comes out as expected
 pub cases-right : All Right cases
-unfolding run offered outcome openFarm offerAsked offerSaid offerFarm ofNumber passesOf countsWithin timesWithin waitingPass costsWithin allAtMost allAtLeast jobsPass jobPasses jobWithin jobKept sharesKept noneOf allDiffer fitAll spansOfAll chunksFrom afters keysBy plan booksAll noLater insertKey sortOnto nodeKeys ranked search bookingOf bookedAt bookOf finish sum first left capacity cut greedy earliest
+unfolding run made outcome openFarm offerAsked offerSaid offerFarm ofNumber passesOf countsWithin timesWithin waitingPass costsWithin allAtMost allAtLeast jobsPass jobPasses jobWithin jobKept sharesKept noneOf allDiffer fitAll spansOfAll chunksFrom afters keysBy plan booksAll noLater insertKey sortOnto nodeKeys ranked search bookingOf bookedAt bookOf finish sum first left capacity cut greedy earliest
 cases-right = (refl, (refl, (refl, (refl, (refl, (refl, (refl, (refl, (refl, (refl, (refl, (refl, (refl, tt)))))))))))))
 
 -- so does every row of a job's own compute cost
 pub own-cases-right : All Right ownCases
-unfolding run offered outcome openFarm offerAsked offerSaid offerFarm ofNumber passesOf countsWithin timesWithin waitingPass costsWithin allAtMost allAtLeast jobsPass jobPasses jobWithin jobKept sharesKept noneOf allDiffer fitAll spansOfAll chunksFrom afters keysBy plan booksAll noLater insertKey sortOnto nodeKeys ranked search bookingOf bookedAt bookOf finish sum first left capacity cut greedy earliest
+unfolding run made outcome openFarm offerAsked offerSaid offerFarm ofNumber passesOf countsWithin timesWithin waitingPass costsWithin allAtMost allAtLeast jobsPass jobPasses jobWithin jobKept sharesKept noneOf allDiffer fitAll spansOfAll chunksFrom afters keysBy plan booksAll noLater insertKey sortOnto nodeKeys ranked search bookingOf bookedAt bookOf finish sum first left capacity cut greedy earliest
 own-cases-right = (refl, (refl, (refl, (refl, (refl, (refl, (refl, tt)))))))
+
+-- so does every row of a withdrawal
+pub withdraw-cases-right : All Right withdrawCases
+unfolding run made outcome openFarm offerAsked offerSaid offerFarm hasNumber ofNumber without withdrawSaid withdrawFarm keep raised linesOfAll moveAsked moveFarm passesOf countsWithin timesWithin waitingPass costsWithin allAtMost allAtLeast jobsPass jobPasses jobWithin jobKept sharesKept noneOf allDiffer fitAll spansOfAll chunksFrom afters keysBy plan booksAll noLater insertKey sortOnto nodeKeys ranked search bookingOf bookedAt bookOf finish sum first left capacity cut greedy earliest
+withdraw-cases-right = (refl, (refl, (refl, (refl, (refl, (refl, (refl, tt)))))))
+
+-- After that withdrawal a walk of the waiting jobs alone does not book them all, so that an offer walked behind them is refused with 8 however small it is.
+pub old-job-fails : booksAll (termsOf (farmOf oldJobFails)) (busyOf (farmOf oldJobFails)) (byDeadline (waitingOf (farmOf oldJobFails))) ≡ false
+unfolding made openFarm offerAsked offerSaid offerFarm hasNumber ofNumber without withdrawSaid withdrawFarm passesOf countsWithin timesWithin waitingPass costsWithin allAtMost allAtLeast jobsPass jobPasses jobWithin jobKept sharesKept noneOf allDiffer fitAll spansOfAll chunksFrom afters keysBy plan booksAll noLater insertKey sortOnto nodeKeys ranked search bookingOf bookedAt bookOf finish sum first left capacity cut greedy earliest
+old-job-fails = refl
+
+-- The old plan stands all the same, and is issued: jobs 2 and 3 as they were booked, by 10 and by 20.
+pub old-plan-stands : issued (offerFarm (farmOf oldJobFails) (oldJobFails .offer)) 9
+    ≡ record { job = 2; show = 1; node = 2; units = 3; start = 2; sent = 5; finish = 8 }
+    ∷ record { job = 2; show = 1; node = 1; units = 2; start = 5; sent = 7; finish = 9 }
+    ∷ record { job = 3; show = 1; node = 2; units = 5; start = 9; sent = 14; finish = 19 }
+    ∷ record { job = 3; show = 1; node = 1; units = 3; start = 14; sent = 17; finish = 20 }
+    ∷ []
+unfolding made openFarm offerAsked offerSaid offerFarm hasNumber ofNumber without withdrawSaid withdrawFarm keep linesOfAll passesOf countsWithin timesWithin waitingPass costsWithin allAtMost allAtLeast jobsPass jobPasses jobWithin jobKept sharesKept noneOf allDiffer fitAll spansOfAll chunksFrom afters keysBy plan booksAll noLater insertKey sortOnto nodeKeys ranked search bookingOf bookedAt bookOf finish sum first left capacity cut greedy earliest
+old-plan-stands = refl

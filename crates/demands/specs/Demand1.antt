@@ -1,9 +1,10 @@
 -- Demand 1, a theorem a sentence:
 --   "The timetable memory lent to a call holds, after it, the lines of the answer at its front and its former
 --    contents everywhere else;"                                                       move-writes, shown-writes
---   "after a refusal it is unchanged throughout, and so is the farm."                  open-keeps, offer-keeps, move-keeps, shown-keeps
+--   "after a refusal it is unchanged throughout, and so is the farm."                  open-keeps, offer-keeps, withdraw-keeps, move-keeps, shown-keeps
 --   "This is so for all arguments and lengths, and every call ends,"                   the functions' contracts, which have no `requires`
---   "refused exactly where the papers name a refusal and granted otherwise."           open-asks, offer-asks, move-asks, shown-asks, account-asks
+--   "refused exactly where the papers name a refusal and granted otherwise."           open-asks, offer-asks, withdraw-asks, move-asks, shown-asks,
+--                                                                                      account-asks
 -- The contracts equate the functions of src/ with the definitions that these theorems speak of.
 use mathlib.Core.Path.{_≡_, refl, ap}
 use mathlib.Core.List.{List, [], _∷_, _++_}
@@ -16,9 +17,9 @@ use Rattle.shares.specs.declared.Costs.{Costs}
 use Rattle.walk.specs.declared.Chunk.{Chunk}
 use Rattle.planner.specs.declared.Farm.{Farm}
 use Rattle.planner.specs.declared.Offer.{Offer}
-use Rattle.planner.specs.Model.{greatest, between, costsWithin}
+use Rattle.planner.specs.Model.{greatest, between, costsWithin, waitingOf}
 use Rattle.planner.specs.Passes.{passesOf}
-use Rattle.planner.specs.Calls.{Open, Yes, Clock, Shown, Account, Said, granted, refused, showsWithin, openSaid, openFarm, unopened, openedWith, accountSaid, heldBy, allowanceOf, computeOf, planned, accepts, withPlan, ofNumber, yesOf, offerAsked, offerSaid, offerFarm}
+use Rattle.planner.specs.Calls.{hasNumber, Open, Yes, Clock, Shown, Account, Gone, Said, granted, refused, showsWithin, openSaid, openFarm, unopened, openedWith, accountSaid, heldBy, allowanceOf, computeOf, planned, accepts, withPlan, ofNumber, yesOf, offerAsked, offerSaid, offerFarm, withdrawnFarm, withdrawSaid, withdrawFarm}
 use Rattle.planner.specs.Clock.{issued, movedFarm, moveAsked, moveSaid, moveFarm, moveMemory, shown, shownAsked, shownSaid, shownMemory}
 use Rattle.demands.specs.MoveAnswers.{move-is, move-stopped, shown-is, shown-stopped}
 
@@ -71,6 +72,16 @@ offer-asks f o =
     go true true false p e g h vs = refl
     go true false c p e g h vs = refl
     go false b c p e g h vs = refl
+
+-- A withdrawal is refused with 11 or 12, and granted otherwise.
+pub withdraw-asks : (f : Farm) (n : ℕ) → withdrawSaid f n .number ≡ firstNo (asks 11 (passesOf f) ∷ asks 12 (hasNumber n (waitingOf f)) ∷ [])
+unfolding withdrawSaid firstNo
+withdraw-asks f n = go (passesOf f) (hasNumber n (waitingOf f))
+  where
+    go : (a b : Bool) → cond {A = Said} a (cond b (granted Gone (n ∷ [])) (refused 12)) (refused 11) .number ≡ cond {A = ℕ} a (cond b 0 12) 11
+    go true true = refl
+    go true false = refl
+    go false b = refl
 
 -- A clock move is refused with 11, 9 or 10, and granted otherwise.
 pub move-asks : (f : Farm) (t n : ℕ) → moveSaid f t n .number ≡ firstNo (asks 11 (passesOf f) ∷ asks 9 (between (f .clock) t greatest) ∷ asks 10 (leb (length (issued f t)) n) ∷ [])
@@ -134,6 +145,16 @@ offer-keeps f o k = go (eqb (offerAsked f o) 0) (accepts f o) (yesOf (f .costs) 
     go true false vs e = refl
     go false h vs e = refl
 
+-- A refused withdrawal hands back the farm as it was.
+pub withdraw-keeps : (f : Farm) (n k : ℕ) → withdrawSaid f n .number ≡ suc k → withdrawFarm f n ≡ f
+unfolding withdrawSaid withdrawFarm
+withdraw-keeps f n k = go (passesOf f) (hasNumber n (waitingOf f))
+  where
+    go : (a b : Bool) → cond {A = Said} a (cond b (granted Gone (n ∷ [])) (refused 12)) (refused 11) .number ≡ suc k → cond {A = Farm} (a && b) (withdrawnFarm f n) f ≡ f
+    go true true e = absurd (omega arith)
+    go true false e = refl
+    go false b e = refl
+
 -- A refused clock move hands back the farm and the lent memory as they were.
 pub move-keeps : (f : Farm) (t : ℕ) (m : List Chunk) (k : ℕ) → moveSaid f t (length m) .number ≡ suc k → (moveFarm f t (length m) ≡ f) × (moveMemory f t m ≡ m)
 unfolding moveSaid moveFarm moveMemory
@@ -153,6 +174,19 @@ shown-keeps f m k = go (eqb (shownAsked f (length m)) 0)
         → cond {A = List Chunk} a (shown f ++ drop (length (shown f)) m) m ≡ m
     go true e = absurd (omega arith)
     go false e = refl
+
+-- ---- A granted withdrawal takes its job out and changes nothing else
+
+-- It answers the job, and hands back the farm without it.
+pub withdraw-leaves : (f : Farm) (n : ℕ) → withdrawSaid f n .number ≡ 0 → (withdrawSaid f n ≡ granted Gone (n ∷ [])) × (withdrawFarm f n ≡ withdrawnFarm f n)
+unfolding withdrawSaid withdrawFarm
+withdraw-leaves f n = go (passesOf f) (hasNumber n (waitingOf f))
+  where
+    go : (a b : Bool) → cond {A = Said} a (cond b (granted Gone (n ∷ [])) (refused 12)) (refused 11) .number ≡ 0
+        → (cond {A = Said} a (cond b (granted Gone (n ∷ [])) (refused 12)) (refused 11) ≡ granted Gone (n ∷ [])) × (cond {A = Farm} (a && b) (withdrawnFarm f n) f ≡ withdrawnFarm f n)
+    go true true e = (refl, refl)
+    go true false e = absurd (omega arith)
+    go false b e = absurd (omega arith)
 
 -- ---- A grant writes its lines and nothing else
 

@@ -1,6 +1,6 @@
 -- Demand 3, its sentences beside the parts of the claim (`Demand3` below; `demand3` at the end is the theorem):
 --   "For every list of offers and clock moves, refused ones included, after a granted opening, each call given the farm
---    that the one before it handed back,"                                             demand3, over `run` (CallLists.antt)
+--    that the one before it handed back,"                                             demand3, over `run` (CallLists.antt), withdrawals among them
 --   "no accepted job is late."                                                        each, due
 --   "Its chunks are issued, each once, all by the first granted clock move after its acceptance to reach the start it
 --    has at that move,"                                                               stories (`Lifecycle` in CallLists.antt)
@@ -12,10 +12,15 @@
 --   "No later call alters an issued chunk."                                           unaltered
 --   "No two chunks, issued or booked, are on one node, and no two of their sends on the link, in the same tick."   apart
 --   "After the list each show's held ticks equal the sum over its issued chunks."     held
+--   document 02 (ii): "All other bookings keep start, nodes and shares;"              withdrawals (each other waiting job is, whole, the one it was)
+--   "the next offer walks without it. Earliest start and fewest nodes hold of a booking as of the walk that made it."   walks, latest
+--   "A withdrawn job owes nothing and is issued nothing,"                             gone, stories (`withdrawn` of `Lifecycle`); its number is never used
+--                                                                                     again: numbers, once
+--   "and demand 3 covers all the others for every list of offers, withdrawals and clock moves."   each, due and the rest
 -- and document 01's readings under "Demand 3 over a list": clock, free, link, numbers, latest, accepted, walks; "A granted opening and the calls
 -- after it always hand back a farm that passes": passes; "shorter moves then get through, as no two jobs share a start": starts, next.
 use mathlib.Core.Path.{_≡_, refl, ap, sym, subst, _∙_}
-use mathlib.Core.List.{List, [], _∷_, _++_, map, map-map, List·Memᴰ, List·Memᴰ·head, Permᴰ·map, Permᴰ·symm, Permᴰ·append-left}
+use mathlib.Core.List.{List, [], _∷_, _++_, map, map-map, List·Memᴰ, List·Memᴰ·head, List·Permᴰ, Permᴰ·map, Permᴰ·symm, Permᴰ·append-left}
 use mathlib.Core.Bool.{Bool, true, false, cond, _&&_, false≢true}
 use mathlib.Core.Logic.{_⊎_, inl, inr, ⊎-elim}
 use Prim.Native.Nat.{ℕ, zero, suc, _-_, _≤_, _<_, max}
@@ -24,7 +29,7 @@ use native.Mathlib.Omega.{arith}
 use borrow.Author.Tests.{eqb-true, eqb-false}
 use lib.Dec.{eqb}
 use lib.ListN.{length, replicate, length-replicate, getD-replicate}
-use Rattle.lists.specs.Laws.{All, Pairs, Differ, all-map, all-of, all-image, all-join, perm-all, perm-mem, perm-pairs, mem-image, at-member, mem-left, mem-right}
+use Rattle.lists.specs.Laws.{All, Pairs, Differ, all-map, all-of, all-image, image-all, all-append, all-join, pairs-across, pairs-parts, perm-all, perm-mem, perm-pairs, mem-image, at-member, mem-left, mem-right, map-join}
 use Rattle.shares.specs.declared.Costs.{Costs}
 use Rattle.shares.specs.Model.{finish}
 use Rattle.shares.specs.Lists.{Positive}
@@ -42,15 +47,16 @@ use Rattle.planner.specs.CallsSteps.{walk-ready}
 use Rattle.planner.specs.OfferSteps.{offer-offered}
 use Rattle.soundness.specs.Sweep.{spans-all, spans-perm, apart-sym}
 use Rattle.demands.specs.QuestionEleven.{passes-iff}
-use Rattle.planner.specs.Calls.{Open, Said, granted, refused, showsWithin, openFarm, openSaid, heldBy, newJob, queueOf, planned, withPlan}
+use Rattle.planner.specs.Calls.{ofNumber, without, Open, Said, granted, refused, showsWithin, openFarm, openSaid, heldBy, newJob, queueOf, planned, withPlan, withdrawnFarm}
 use Rattle.demands.specs.OfferPasses.{waiting-planned}
 use Rattle.planner.specs.Clock.{begun, issued, moveAsked}
 use Rattle.demands.specs.Starts.{StartsDiffer, starts-differ, next-few, next-granted}
-use Rattle.demands.specs.CallLists.{Call, offer, move, handed, isGranted, linesBy, Accepted, jobsBy, History, opening, note, run, heldOf, upTo, linesFor, latestFinish, latestSent, acceptedOf, Fulfils, FromFirst, Waits, IssuesNone, Lifecycle}
+use Rattle.demands.specs.CallLists.{Call, offer, withdraw, move, handed, isGranted, linesBy, Accepted, jobsBy, History, opening, note, run, heldOf, upTo, linesFor, latestFinish, latestSent, acceptedOf, Fulfils, FromFirst, Waits, IssuesNone, Lifecycle}
 use Rattle.demands.specs.BegunJobs.{chunkOf}
-use Rattle.queue.specs.Numbers.{numberOfJob}
+use Rattle.queue.specs.Numbers.{numberOfJob, of-number-has}
+use Rattle.demands.specs.WithdrawPasses.{leaves-others, withdrawn-waiting}
 use Rattle.demands.specs.MovePasses.{Waiting, waiting-jobs, booked-chain}
-use Rattle.demands.specs.Outcome.{taken, Takes, Moves, outcome}
+use Rattle.demands.specs.Outcome.{taken, Takes, Leaves, Moves, outcome}
 use Rattle.demands.specs.Invariant.{idle, Whole, Inv, plan-accepted, whole-proper, open-inv, note-inv, run-inv}
 use Rattle.demands.specs.Lifecycles.{spans-named, none-of-jobs, lines-none, lines-own, whole-fulfils, spans-first, waits-as, NoLongerWaits, issues-no-more, begun-no-longer-waits, front-differ, none-before, Among, lifecycle}
 
@@ -73,6 +79,22 @@ pub record Booked (x : Accepted) (w : History) : Type 0 where
   pub latest : List·Memᴰ (waits .job) (w .latest)
   pub early : w .farm .clock < x .deadline
 
+-- Job n was withdrawn: a granted withdrawal named it, it had been accepted, none of its chunks has been issued, and it waits no longer.
+pub record Withdrawn (n : ℕ) (w : History) : Type 0 where
+  pub named : List·Memᴰ n (w .gone)
+  pub accepted : List·Memᴰ n (map (λ (x : Accepted). x .number) (w .jobs))
+  pub lines : linesFor n (w .lines) ≡ []
+  pub waits : All (λ (j : Job). j .number ≡ n → ⊥) (waitingOf (w .farm))
+
+-- A granted withdrawal of job n from the farm f: a waiting job has the number; the farm handed back is f without that job, and the jobs that wait then are
+-- the others, each as it was, in the order that they had.
+pub record Withdrawal (f : Farm) (n : ℕ) : Type 0 where
+  pub job : Job
+  pub number : job .number ≡ n
+  pub farm : handed f (withdraw n) ≡ withdrawnFarm f n
+  pub order : waitingOf (handed f (withdraw n)) ≡ without n (waitingOf f)
+  pub others : List·Permᴰ (waitingOf f) (job ∷ waitingOf (handed f (withdraw n)))
+
 -- The walk of an offer that was accepted after v: what it knew, and that it gave each job the best of all choices behind those before it (demand 2).
 pub record Walked (v : History) (o : Offer) : Type 0 where
   -- its plan replaced the old one
@@ -89,11 +111,16 @@ Split cs before c after = cs ≡ before ++ c ∷ after
 
 -- demand 3 of the calls cs after an opening that handed the farm f back, w what is noted after them
 pub record Demand3 (f : Farm) (cs : List Call) (w : History) : Type 0 where
-  -- No accepted job is late: its chunks, issued or where the list ends before that booked, add up to its size and end by its deadline.
-  pub each : All (λ (x : Accepted). Issued x w ⊎ Booked x w) (w .jobs)
-  -- They have been issued once the clock has reached its deadline.
-  pub due : All (λ (x : Accepted). x .deadline ≤ w .farm .clock → Issued x w) (w .jobs)
-  -- They are issued, each once, all by the first granted clock move after its acceptance to reach the start it has at that move.
+  -- No accepted job is late: its chunks, issued or where the list ends before that booked, add up to its size and end by its deadline, unless it was
+  -- withdrawn.
+  pub each : All (λ (x : Accepted). Issued x w ⊎ (Booked x w ⊎ Withdrawn (x .number) w)) (w .jobs)
+  -- They have been issued once the clock has reached its deadline, unless it was withdrawn.
+  pub due : All (λ (x : Accepted). x .deadline ≤ w .farm .clock → Issued x w ⊎ Withdrawn (x .number) w) (w .jobs)
+  -- Each job that a granted withdrawal named was accepted, is issued nothing and waits no longer; none was named twice.
+  pub gone : All (λ (n : ℕ). Withdrawn n w) (w .gone)
+  pub once : Differ (w .gone)
+  -- They are issued, each once, all by the first granted clock move after its acceptance to reach the start it has at that move; or a granted withdrawal
+  -- names it before, and none is issued.
   pub stories : (before : List Call) (c : Call) (after : List Call) → Split cs before c after
       → All (λ (x : Accepted). Lifecycle x (handed (run (opening f) before .farm) c) after) (jobsBy (run (opening f) before .farm) c)
   -- No others are ever issued.
@@ -118,6 +145,9 @@ pub record Demand3 (f : Farm) (cs : List Call) (w : History) : Type 0 where
   -- Each such walk knew the clock, the waiting jobs, the new one and the free times that the issued chunks left.
   pub walks : (before : List Call) (o : Offer) (after : List Call) → Split cs before (offer o) after → isGranted (run (opening f) before .farm) (offer o) ≡ true
       → Walked (run (opening f) before) o
+  -- Each granted withdrawal takes that job out of those that wait, and changes nothing else.
+  pub withdrawals : (before : List Call) (n : ℕ) (after : List Call) → Split cs before (withdraw n) after → isGranted (run (opening f) before .farm) (withdraw n) ≡ true
+      → Withdrawal (run (opening f) before .farm) n
   -- No two waiting jobs share a start, so a move to the next start issues at most 64 lines, and is granted wherever 64 records are lent.
   pub starts : Pairs StartsDiffer (waitingOf (w .farm))
   pub next : (j : Job) → List·Memᴰ j (waitingOf (w .farm)) → All (λ (k : Job). j .booking .start ≤ k .booking .start) (waitingOf (w .farm))
@@ -180,11 +210,22 @@ finish-after c t (a ∷ xs) m h p = omega (arith, mul-le-mul-right (c .send) (p 
 -- ---- From the invariant
 
 module _ (w : History) (i : Inv w) where
-  all-differ : Differ (map numberOfJob (i .past ++ waitingOf (w .farm)))
-  all-differ =
+  -- the numbers of the jobs withdrawn, and of the others
+  abbrev goneNumbers : List ℕ
+  goneNumbers = map (λ (x : Accepted). x .number) (i .gone)
+
+  abbrev keptNumbers : List ℕ
+  keptNumbers = map numberOfJob (i .past ++ waitingOf (w .farm))
+
+  numbers-differ : Differ (goneNumbers ++ keptNumbers)
+  numbers-differ =
       let d : Differ (map (λ (x : Accepted). x .number) (w .jobs)) = subst Differ (sym (i .numbers)) (up-to-differ (w .farm .used)) in
-      subst Differ (map-map (λ (x : Accepted). x .number) acceptedOf (i .past ++ waitingOf (w .farm)))
+      let rest = map acceptedOf (i .past ++ waitingOf (w .farm)) in
+      subst Differ (map-join (λ (x : Accepted). x .number) (i .gone) rest ∙ ap (λ (l : List ℕ). goneNumbers ++ l) (map-map (λ (x : Accepted). x .number) acceptedOf (i .past ++ waitingOf (w .farm))))
       (perm-pairs (λ (a b : ℕ). a ≡ b → ⊥) (λ a b n q. n (sym q)) (Permᴰ·map (λ (x : Accepted). x .number) (i .jobs)) d)
+
+  all-differ : Differ keptNumbers
+  all-differ = pairs-parts (λ (a b : ℕ). a ≡ b → ⊥) goneNumbers keptNumbers numbers-differ .1
 
   past-lines : (j : Job) → List·Memᴰ j (i .past) → linesFor (j .number) (w .lines) ≡ spansOf (w .farm .costs) j
   past-lines j m = ap (linesFor (j .number)) (i .lines) ∙ lines-own (w .farm .costs) (i .past) j (front-differ (i .past) (waitingOf (w .farm)) all-differ) m
@@ -212,19 +253,47 @@ module _ (w : History) (i : Inv w) where
     early = job-early j (at-member (Waiting (w .farm)) m (waiting-jobs (w .farm) (i .sized) (i .passes)));
   })
 
-  -- Each accepted job has been issued or is booked.
-  each-job : All (λ (x : Accepted). Issued x w ⊎ Booked x w) (w .jobs)
-  each-job =
-      perm-all (λ (x : Accepted). Issued x w ⊎ Booked x w) (Permᴰ·symm (i .jobs))
-      (all-image (λ (x : Accepted). Issued x w ⊎ Booked x w) acceptedOf (i .past ++ waitingOf (w .farm))
-      (all-join (λ (j : Job). Issued (acceptedOf j) w ⊎ Booked (acceptedOf j) w) (i .past) (waitingOf (w .farm)) (all-map (λ j h. inl h) (i .past) past-issued)
-      (all-map (λ j h. inr h) (waitingOf (w .farm)) waiting-booked)))
+  -- No job that has begun or waits has the number of one that was withdrawn.
+  gone-others : All (λ (n : ℕ). All (λ (j : Job). j .number ≡ n → ⊥) (i .past ++ waitingOf (w .farm))) goneNumbers
+  gone-others =
+      all-map (λ n h. all-map (λ j k q. k (sym q)) (i .past ++ waitingOf (w .farm)) (image-all (λ (b : ℕ). n ≡ b → ⊥) numberOfJob (i .past ++ waitingOf (w .farm)) h)) goneNumbers
+      (pairs-across (λ (a b : ℕ). a ≡ b → ⊥) goneNumbers keptNumbers numbers-differ)
 
-  due-jobs : All (λ (x : Accepted). x .deadline ≤ w .farm .clock → Issued x w) (w .jobs)
-  due-jobs = all-map (λ x h d. ⊎-elim (λ a. a) (λ b. absurd (omega (arith, b .early))) h) (w .jobs) each-job
+  gone-withdrawn : All (λ (n : ℕ). Withdrawn n w) goneNumbers
+  gone-withdrawn = all-of goneNumbers (λ n m.
+      let P : Job → Type 0 = λ (j : Job). j .number ≡ n → ⊥ in
+      let parts = all-append P (i .past) (waitingOf (w .farm)) (at-member (λ (k : ℕ). All (λ (j : Job). j .number ≡ k → ⊥) (i .past ++ waitingOf (w .farm))) m gone-others) in
+      record {
+        named = perm-mem (Permᴰ·symm (i .named)) m;
+        accepted = perm-mem (Permᴰ·map (λ (x : Accepted). x .number) (Permᴰ·symm (i .jobs)))
+            (subst (List·Memᴰ n) (sym (map-join (λ (x : Accepted). x .number) (i .gone) (map acceptedOf (i .past ++ waitingOf (w .farm))))) (mem-left _ m));
+        lines = ap (linesFor n) (i .lines) ∙ lines-none n (spansOfAll (w .farm .costs) (i .past)) (none-of-jobs (w .farm .costs) n (i .past) (parts .0));
+        waits = parts .1;
+      })
+
+  withdrawn-jobs : All (λ (n : ℕ). Withdrawn n w) (w .gone)
+  withdrawn-jobs = perm-all (λ (n : ℕ). Withdrawn n w) (Permᴰ·symm (i .named)) gone-withdrawn
+
+  gone-once : Differ (w .gone)
+  gone-once =
+      perm-pairs (λ (a b : ℕ). a ≡ b → ⊥) (λ a b n q. n (sym q)) (Permᴰ·symm (i .named))
+      (pairs-parts (λ (a b : ℕ). a ≡ b → ⊥) goneNumbers keptNumbers numbers-differ .0)
+
+  -- Each accepted job has been issued, is booked or was withdrawn.
+  each-job : All (λ (x : Accepted). Issued x w ⊎ (Booked x w ⊎ Withdrawn (x .number) w)) (w .jobs)
+  each-job =
+      let P : Accepted → Type 0 = λ (x : Accepted). Issued x w ⊎ (Booked x w ⊎ Withdrawn (x .number) w) in
+      perm-all P (Permᴰ·symm (i .jobs))
+      (all-join P (i .gone) (map acceptedOf (i .past ++ waitingOf (w .farm)))
+      (all-map (λ x h. inr (inr h)) (i .gone) (image-all (λ (n : ℕ). Withdrawn n w) (λ (x : Accepted). x .number) (i .gone) gone-withdrawn))
+      (all-image P acceptedOf (i .past ++ waitingOf (w .farm))
+      (all-join (λ (j : Job). P (acceptedOf j)) (i .past) (waitingOf (w .farm)) (all-map (λ j h. inl h) (i .past) past-issued) (all-map (λ j h. inr (inl h)) (waitingOf (w .farm)) waiting-booked))))
+
+  due-jobs : All (λ (x : Accepted). x .deadline ≤ w .farm .clock → Issued x w ⊎ Withdrawn (x .number) w) (w .jobs)
+  due-jobs = all-map (λ x h d. ⊎-elim (λ a. inl a) (λ b. ⊎-elim (λ k. absurd (omega (arith, k .early))) (λ k. inr k) b) h) (w .jobs) each-job
 
   past-number : (j : Job) → List·Memᴰ j (i .past ++ waitingOf (w .farm)) → List·Memᴰ (acceptedOf j) (w .jobs)
-  past-number j m = perm-mem (Permᴰ·symm (i .jobs)) (mem-image acceptedOf m)
+  past-number j m = perm-mem (Permᴰ·symm (i .jobs)) (mem-right (i .gone) (mem-image acceptedOf m))
 
   only-jobs : All (λ (y : Span). List·Memᴰ (y .chunk .job) (map (λ (x : Accepted). x .number) (w .jobs))) (w .lines)
   only-jobs =
@@ -264,6 +333,7 @@ module _ (w : History) (i : Inv w) where
 
 -- A job that a call accepts waits after it.
 new-among : (f : Farm) (c : Call) → Sized f → All (λ (x : Accepted). Among x (handed f c)) (jobsBy f c)
+new-among f (withdraw n) z = tt
 new-among f (move t m) z = tt
 new-among f (offer o) z = ⊎-elim (λ r. subst (All (λ (x : Accepted). Among x (handed f (offer o)))) (sym (r .jobs)) tt) takes (outcome f (offer o) z)
   where
@@ -295,9 +365,25 @@ offer-walked w o i e = ⊎-elim (λ r. absurd (false≢true (sym (r .says) ∙ e
           link = link-free w i;
         }
 
+-- A granted withdrawal takes one job out.
+call-withdrawal : (f : Farm) (n : ℕ) → Sized f → isGranted f (withdraw n) ≡ true → Withdrawal f n
+call-withdrawal f n z e = ⊎-elim (λ r. absurd (false≢true (sym (r .says) ∙ e))) leaves (outcome f (withdraw n) z)
+  where
+    leaves : Leaves f n → Withdrawal f n
+    leaves k =
+        let now : waitingOf (handed f (withdraw n)) ≡ without n (waitingOf f) = ap waitingOf (k .hands) ∙ withdrawn-waiting f n z (k .passes) (k .has) in
+        record {
+          job = ofNumber n (waitingOf f);
+          number = of-number-has n (waitingOf f) (k .has);
+          farm = k .hands;
+          order = now;
+          others = subst (λ (l : List Job). List·Permᴰ (waitingOf f) (ofNumber n (waitingOf f) ∷ l)) (sym now) (leaves-others f n z (k .passes) (k .has));
+        }
+
 -- No call after it issues a chunk of a job that a call has issued.
 issued-issues-none : (w : History) (c : Call) (cs : List Call) → Inv w → All (λ (y : Span). IssuesNone (y .chunk .job) (handed (w .farm) c) cs) (linesBy (w .farm) c)
 issued-issues-none w (offer o) cs i = tt
+issued-issues-none w (withdraw n) cs i = tt
 issued-issues-none w (move t m) cs i = ⊎-elim (λ r. subst (All P) (sym (r .lines)) tt) moves (outcome (w .farm) (move t m) (i .sized))
   where
     P : Span → Type 0
@@ -334,6 +420,8 @@ demand3 n c al e cs =
     record {
       each = each-job w i;
       due = due-jobs w i;
+      gone = withdrawn-jobs w i;
+      once = gone-once w i;
       stories = λ before x after h.
           let v = run (opening f) before in
           let j : Inv (run (opening f) before) = run-inv (opening f) before o in
@@ -349,6 +437,7 @@ demand3 n c al e cs =
       latest = i .latest;
       accepted = all-of (waitingOf (w .farm)) (λ j m. past-number w i j (mem-right (i .past) m));
       walks = λ before x after h g. offer-walked (run (opening f) before) x (run-inv (opening f) before o) g;
+      withdrawals = λ before n after h g. call-withdrawal (run (opening f) before .farm) n (run-inv (opening f) before o .sized) g;
       starts = starts-differ (w .farm) (i .sized) (i .passes);
       next = λ j m h. (next-few (w .farm) (i .sized) (i .passes) j m h, next-granted (w .farm) (i .sized) (i .passes) j m h);
       passes = i .passes;

@@ -1,6 +1,6 @@
 -- What holds after every list of calls: history and plan are one chain of spans, and the farm is what the issued chunks and the accepted jobs make it.
 use mathlib.Core.Path.{_≡_, refl, ap, sym, subst, _∙_}
-use mathlib.Core.List.{List, [], _∷_, _++_, map, append-nil, append-assoc, List·Memᴰ, List·Permᴰ, List·Permᴰ·nil, List·Permᴰ·trans, Permᴰ·map, Permᴰ·append-left, Permᴰ·append-right}
+use mathlib.Core.List.{List, [], _∷_, _++_, map, append-nil, append-assoc, List·Memᴰ, List·Permᴰ, List·Permᴰ·nil, List·Permᴰ·cons, List·Permᴰ·trans, List·Permᴰ·append-comm, Permᴰ·map, Permᴰ·append-left, Permᴰ·append-right, Permᴰ·middle}
 use mathlib.Core.Bool.{true, _&&_}
 use mathlib.Core.Logic.{⊎-elim}
 use Prim.Native.Nat.{ℕ, suc, _+_, _-_, _≤_, _<_}
@@ -8,6 +8,7 @@ use native.Mathlib.Omega.{arith}
 use native.Mathlib.Numerals.{add-one}
 use lib.ListN.{length, getD, replicate, length-replicate, getD-replicate}
 use Rattle.lists.specs.Laws.{All, all-map, all-both, all-of, all-image, all-take, all-append, all-join, perm-all, map-join}
+use Rattle.queue.specs.Numbers.{of-number-has}
 use Rattle.shares.specs.declared.Costs.{Costs}
 use Rattle.shares.specs.Model.{sum, finish}
 use Rattle.shares.specs.Lists.{Positive}
@@ -25,15 +26,16 @@ use Rattle.walk.specs.Order.{by-deadline-perm}
 use Rattle.soundness.specs.Sweep.{spans-all}
 use Rattle.soundness.specs.Sound.{Paired}
 use Rattle.demands.specs.QuestionEleven.{passes-iff}
-use Rattle.planner.specs.Calls.{openedWith, showsWithin, openFarm, heldBy, newJob, queueOf, planned, withPlan}
+use Rattle.planner.specs.Calls.{ofNumber, without, openedWith, showsWithin, openFarm, heldBy, newJob, queueOf, planned, withPlan, withdrawnFarm}
 use Rattle.demands.specs.OfferPasses.{all-replicate, opens-with, open-sized, open-passes, waiting-planned, accepted-sized, accepted-passes}
 use Rattle.planner.specs.Clock.{begun, left, issued, movedFarm}
-use Rattle.demands.specs.CallLists.{Call, offer, move, Accepted, History, opening, note, run, heldOf, upTo, acceptedOf}
+use Rattle.demands.specs.CallLists.{Call, offer, withdraw, move, Accepted, History, opening, note, run, heldOf, upTo, acceptedOf}
 use Rattle.timetable.specs.BeginSteps.{afters-append}
 use Rattle.demands.specs.BegunJobs.{begun-left, spans-append, chunkOf, spans-chunks}
 use Rattle.demands.specs.HeldTicks.{afters-within, sum-within, held-part, held-append, held-free, raised-held}
+use Rattle.demands.specs.WithdrawPasses.{leaves-others, withdrawn-waiting, withdrawn-sized, withdrawn-passes}
 use Rattle.demands.specs.MovePasses.{Waiting, moved-chain, begun-jobs, moved-waiting, moved-sized, moved-passes}
-use Rattle.demands.specs.Outcome.{Refused, taken, Takes, Moves, outcome, chunks-named}
+use Rattle.demands.specs.Outcome.{Refused, taken, Takes, Leaves, Moves, outcome, chunks-named}
 
 -- ---- The invariant
 
@@ -53,8 +55,9 @@ pub record Whole (c : Costs) (shows : ℕ) (j : Job) : Type 0 where
 
 -- what holds after every list of calls
 pub record Inv (w : History) : Type 0 where
-  -- the jobs begun, in order
+  -- the jobs begun, in order, and those withdrawn
   pub past : List Job
+  pub gone : List Accepted
   pub sized : Sized (w .farm)
   pub passes : passesOf (w .farm) ≡ true
   pub whole : All (Whole (w .farm .costs) (w .farm .shows)) past
@@ -64,8 +67,9 @@ pub record Inv (w : History) : Type 0 where
   -- the farm's free times and held ticks are what it left
   pub busy : busyOf (w .farm) ≡ afters idle (map chunkOf (w .lines))
   pub held : (s : ℕ) → Between 1 s 32 → heldBy (w .farm) s ≡ heldOf s (w .lines)
-  -- each accepted job has begun or waits
-  pub jobs : List·Permᴰ (w .jobs) (map acceptedOf (past ++ waitingOf (w .farm)))
+  -- each accepted job was withdrawn, has begun or waits
+  pub jobs : List·Permᴰ (w .jobs) (gone ++ map acceptedOf (past ++ waitingOf (w .farm)))
+  pub named : List·Permᴰ (w .gone) (map (λ (x : Accepted). x .number) gone)
   pub numbers : map (λ (x : Accepted). x .number) (w .jobs) ≡ upTo (w .farm .used)
   pub latest : All (λ (j : Job). List·Memᴰ j (w .latest)) (waitingOf (w .farm))
   pub clock : w .farm .clock ≡ w .time
@@ -88,6 +92,7 @@ opened-inv : (n : ℕ) (c : Costs) (al : List ℕ) → Sized (openedWith n c al)
 unfolding spansOfAll afters heldOf upTo
 opened-inv n c al z e = record {
   past = [];
+  gone = [];
   sized = z;
   passes = e;
   whole = tt;
@@ -96,6 +101,7 @@ opened-inv n c al z e = record {
   busy = refl;
   held = λ s h. getD-replicate 32 (s - 1) 0 0 (omega arith);
   jobs = List·Permᴰ·nil;
+  named = List·Permᴰ·nil;
   numbers = refl;
   latest = tt;
   clock = refl;
@@ -109,12 +115,13 @@ open-inv n c al e =
 
 -- ---- A world by its parts
 
-abbrev historyOf : Farm → List Span → List Accepted → List Job → ℕ → History
-historyOf f l j p t = record { farm = f; lines = l; jobs = j; latest = p; time = t }
+abbrev historyOf : Farm → List Span → List Accepted → List ℕ → List Job → ℕ → History
+historyOf f l j g p t = record { farm = f; lines = l; jobs = j; gone = g; latest = p; time = t }
 
 -- Worlds with the same parts are the same.
-same-world : {f g : Farm} {k l : List Span} {i j : List Accepted} {p q : List Job} {t u : ℕ} → f ≡ g → k ≡ l → i ≡ j → p ≡ q → t ≡ u → historyOf f k i p t ≡ historyOf g l j q u
-same-world a b c d e = rw (a, b, c, d, e)
+same-world : {f g : Farm} {k l : List Span} {i j : List Accepted} {m n : List ℕ} {p q : List Job} {t u : ℕ} → f ≡ g → k ≡ l → i ≡ j → m ≡ n → p ≡ q → t ≡ u
+    → historyOf f k i m p t ≡ historyOf g l j n q u
+same-world a b c d e x = rw (a, b, c, d, e, x)
 
 -- ---- A refused call
 
@@ -122,7 +129,7 @@ same-world a b c d e = rw (a, b, c, d, e)
 pub refused-note : (w : History) (c : Call) → Refused (w .farm) c → note w c ≡ w
 refused-note w c r =
     same-world (r .hands) (ap (λ (l : List Span). w .lines ++ l) (r .lines) ∙ append-nil (w .lines)) (ap (λ (l : List Accepted). w .jobs ++ l) (r .jobs) ∙ append-nil (w .jobs))
-    (r .latest (w .latest)) (r .time (w .time))
+    (ap (λ (l : List ℕ). w .gone ++ l) (r .gone) ∙ append-nil (w .gone)) (r .latest (w .latest)) (r .time (w .time))
 
 -- ---- An accepted offer
 
@@ -134,24 +141,25 @@ plan-accepted w b (j ∷ js) = ap (λ (l : List Accepted). acceptedOf j ∷ l) (
 
 module _ (w : History) (o : Offer) where
   abbrev offered : History
-  offered = historyOf (withPlan (w .farm) (planned (w .farm) o)) (w .lines) (w .jobs ++ taken (w .farm) o ∷ []) (planned (w .farm) o) (w .time)
+  offered = historyOf (withPlan (w .farm) (planned (w .farm) o)) (w .lines) (w .jobs ++ taken (w .farm) o ∷ []) (w .gone) (planned (w .farm) o) (w .time)
 
   takes-note : Takes (w .farm) o → note w (offer o) ≡ offered
-  takes-note k = same-world (k .hands) (append-nil (w .lines)) (ap (λ (l : List Accepted). w .jobs ++ l) (k .jobs)) (k .latest (w .latest)) refl
+  takes-note k = same-world (k .hands) (append-nil (w .lines)) (ap (λ (l : List Accepted). w .jobs ++ l) (k .jobs)) (append-nil (w .gone)) (k .latest (w .latest)) refl
 
-  taken-jobs : (past : List Job) → List·Permᴰ (w .jobs) (map acceptedOf (past ++ waitingOf (w .farm)))
-      → List·Permᴰ (w .jobs ++ taken (w .farm) o ∷ []) (map acceptedOf (past ++ planned (w .farm) o))
-  taken-jobs past h =
+  taken-jobs : (gone : List Accepted) (past : List Job) → List·Permᴰ (w .jobs) (gone ++ map acceptedOf (past ++ waitingOf (w .farm)))
+      → List·Permᴰ (w .jobs ++ taken (w .farm) o ∷ []) (gone ++ map acceptedOf (past ++ planned (w .farm) o))
+  taken-jobs gone past h =
       let f = w .farm in
       let ws = waitingOf f in
       let new = newJob f o ∷ [] in
-      let one : List·Permᴰ (w .jobs ++ taken f o ∷ []) (map acceptedOf (past ++ ws) ++ map acceptedOf new) = Permᴰ·append-right (taken f o ∷ []) h in
+      let one : List·Permᴰ (w .jobs ++ taken f o ∷ []) (gone ++ (map acceptedOf (past ++ ws) ++ map acceptedOf new)) =
+      subst (List·Permᴰ (w .jobs ++ taken f o ∷ [])) (append-assoc gone (map acceptedOf (past ++ ws)) (map acceptedOf new)) (Permᴰ·append-right (taken f o ∷ []) h) in
       let two : map acceptedOf (past ++ ws) ++ map acceptedOf new ≡ map acceptedOf (past ++ (ws ++ new)) =
       sym (map-join acceptedOf (past ++ ws) new) ∙ ap (map acceptedOf) (append-assoc past ws new) in
       let three : List·Permᴰ (map acceptedOf (past ++ (ws ++ new))) (map acceptedOf (past ++ queueOf f o)) = Permᴰ·map acceptedOf (Permᴰ·append-left past (by-deadline-perm (ws ++ new))) in
       let four : map acceptedOf (past ++ queueOf f o) ≡ map acceptedOf (past ++ planned f o) =
       map-join acceptedOf past (queueOf f o) ∙ ap (λ (l : List Accepted). map acceptedOf past ++ l) (sym (plan-accepted (termsOf f) (busyOf f) (queueOf f o))) ∙ sym (map-join acceptedOf past (planned f o)) in
-      List·Permᴰ·trans (subst (List·Permᴰ (w .jobs ++ taken f o ∷ [])) two one) (subst (List·Permᴰ (map acceptedOf (past ++ (ws ++ new)))) four three)
+      List·Permᴰ·trans (subst (λ (l : List Accepted). List·Permᴰ (w .jobs ++ taken f o ∷ []) (gone ++ l)) two one) (Permᴰ·append-left gone (subst (List·Permᴰ (map acceptedOf (past ++ (ws ++ new)))) four three))
 
   taken-numbers : map (λ (x : Accepted). x .number) (w .jobs) ≡ upTo (w .farm .used) → map (λ (x : Accepted). x .number) (w .jobs ++ taken (w .farm) o ∷ []) ≡ upTo (w .farm .used + 1)
   unfolding upTo
@@ -166,6 +174,7 @@ module _ (w : History) (o : Offer) where
       let size = accepted-sized f o (i .sized) (k .granted) (k .books) in
       record {
         past = i .past;
+        gone = i .gone;
         sized = size;
         passes = passes-iff (withPlan f (planned f o)) size .1 (accepted-passes f o (i .sized) (k .granted) (k .books));
         whole = i .whole;
@@ -173,11 +182,63 @@ module _ (w : History) (o : Offer) where
         chain = i .chain;
         busy = i .busy;
         held = i .held;
-        jobs = subst (λ (l : List Job). List·Permᴰ (w .jobs ++ taken f o ∷ []) (map acceptedOf (i .past ++ l))) (sym now) (taken-jobs (i .past) (i .jobs));
+        jobs = subst (λ (l : List Job). List·Permᴰ (w .jobs ++ taken f o ∷ []) (i .gone ++ map acceptedOf (i .past ++ l))) (sym now) (taken-jobs (i .gone) (i .past) (i .jobs));
+        named = i .named;
         numbers = taken-numbers (i .numbers);
         latest = subst (All (λ (j : Job). List·Memᴰ j (planned f o))) (sym now) (all-of (planned f o) (λ j m. m));
         clock = i .clock;
       }
+
+-- ---- A granted withdrawal
+
+module _ (w : History) (n : ℕ) where
+  abbrev departed : History
+  departed = historyOf (withdrawnFarm (w .farm) n) (w .lines) (w .jobs) (w .gone ++ n ∷ []) (w .latest) (w .time)
+
+  leaves-note : Leaves (w .farm) n → note w (withdraw n) ≡ departed
+  leaves-note k = same-world (k .hands) (append-nil (w .lines)) (append-nil (w .jobs)) (ap (λ (l : List ℕ). w .gone ++ l) (k .gone)) refl refl
+
+  module _ (i : Inv w) (k : Leaves (w .farm) n) where
+    abbrev leaver : Job
+    leaver = ofNumber n (waitingOf (w .farm))
+
+    abbrev others : List Job
+    others = without n (waitingOf (w .farm))
+
+    departed-jobs : List·Permᴰ (w .jobs) (acceptedOf leaver ∷ (i .gone ++ map acceptedOf (i .past ++ others)))
+    departed-jobs =
+        let split : List·Permᴰ (i .past ++ waitingOf (w .farm)) (leaver ∷ (i .past ++ others)) =
+        List·Permᴰ·trans (Permᴰ·append-left (i .past) (leaves-others (w .farm) n (i .sized) (i .passes) (k .has))) (Permᴰ·middle leaver (i .past) others) in
+        List·Permᴰ·trans (i .jobs)
+        (List·Permᴰ·trans (Permᴰ·append-left (i .gone) (Permᴰ·map acceptedOf split)) (Permᴰ·middle (acceptedOf leaver) (i .gone) (map acceptedOf (i .past ++ others))))
+
+    departed-named : List·Permᴰ (w .gone ++ n ∷ []) (leaver .number ∷ map (λ (x : Accepted). x .number) (i .gone))
+    departed-named =
+        List·Permᴰ·trans (List·Permᴰ·append-comm (w .gone) (n ∷ [])) (List·Permᴰ·cons (sym (of-number-has n (waitingOf (w .farm)) (k .has))) (i .named))
+
+    -- A granted withdrawal keeps the invariant.
+    leaves-inv : Inv departed
+    leaves-inv =
+        let f = w .farm in
+        let now : waitingOf (withdrawnFarm f n) ≡ others = withdrawn-waiting f n (i .sized) (i .passes) (k .has) in
+        let size = withdrawn-sized f n (i .sized) (i .passes) (k .has) in
+        let P : Job → Type 0 = λ (j : Job). List·Memᴰ j (w .latest) in
+        record {
+          past = i .past;
+          gone = acceptedOf leaver ∷ i .gone;
+          sized = size;
+          passes = passes-iff (withdrawnFarm f n) size .1 (withdrawn-passes f n (i .sized) (i .passes) (k .has));
+          whole = i .whole;
+          lines = i .lines;
+          chain = i .chain;
+          busy = i .busy;
+          held = i .held;
+          jobs = subst (λ (l : List Job). List·Permᴰ (w .jobs) (acceptedOf leaver ∷ (i .gone ++ map acceptedOf (i .past ++ l)))) (sym now) departed-jobs;
+          named = departed-named;
+          numbers = i .numbers;
+          latest = subst (All P) (sym now) (perm-all P (leaves-others f n (i .sized) (i .passes) (k .has)) (i .latest) .1);
+          clock = i .clock;
+        }
 
 -- ---- Limits of what was issued
 
@@ -221,10 +282,10 @@ held-limit c n s js h k =
 
 module _ (w : History) (t : ℕ) (m : List Chunk) where
   abbrev moved : History
-  moved = historyOf (movedFarm (w .farm) t) (w .lines ++ spansOfAll (w .farm .costs) (begun (w .farm) t)) (w .jobs) (w .latest) t
+  moved = historyOf (movedFarm (w .farm) t) (w .lines ++ spansOfAll (w .farm .costs) (begun (w .farm) t)) (w .jobs) (w .gone) (w .latest) t
 
   moves-note : Moves (w .farm) t m → note w (move t m) ≡ moved
-  moves-note k = same-world (k .hands) (ap (λ (l : List Span). w .lines ++ l) (k .lines)) (append-nil (w .jobs)) refl (k .time (w .time))
+  moves-note k = same-world (k .hands) (ap (λ (l : List Span). w .lines ++ l) (k .lines)) (append-nil (w .jobs)) (append-nil (w .gone)) refl (k .time (w .time))
 
   module _ (i : Inv w) (k : Moves (w .farm) t m) where
     moved-whole : All (Whole (w .farm .costs) (w .farm .shows)) (i .past ++ begun (w .farm) t)
@@ -280,12 +341,13 @@ module _ (w : History) (t : ℕ) (m : List Chunk) where
         subst (λ (b : Busy). (b .link ≤ greatest) × All (λ (x : ℕ). x ≤ greatest) (b .free)) (sym (moved-busy ∙ ap (λ (l : List Span). afters idle (map chunkOf l)) moved-lines))
         (free-limits (w .farm .costs) (w .farm .shows) (i .past ++ begun (w .farm) t) moved-whole)
 
-    moved-jobs : List·Permᴰ (w .jobs) (map acceptedOf ((i .past ++ begun (w .farm) t) ++ left (w .farm) t))
+    moved-jobs : List·Permᴰ (w .jobs) (i .gone ++ map acceptedOf ((i .past ++ begun (w .farm) t) ++ left (w .farm) t))
     moved-jobs =
         let f = w .farm in
         List·Permᴰ·trans (i .jobs)
+        (Permᴰ·append-left (i .gone)
         (subst (λ (l : List Job). List·Permᴰ (map acceptedOf (i .past ++ waitingOf f)) (map acceptedOf l)) (sym (append-assoc (i .past) (begun f t) (left f t)))
-        (Permᴰ·map acceptedOf (Permᴰ·append-left (i .past) (begun-left f t))))
+        (Permᴰ·map acceptedOf (Permᴰ·append-left (i .past) (begun-left f t)))))
 
     moved-latest : All (λ (j : Job). List·Memᴰ j (w .latest)) (left (w .farm) t)
     moved-latest =
@@ -301,6 +363,7 @@ module _ (w : History) (t : ℕ) (m : List Chunk) where
         let size = moved-sized f (i .sized) (i .passes) t in
         record {
           past = i .past ++ begun f t;
+          gone = i .gone;
           sized = size;
           passes = passes-iff (movedFarm f t) size .1
               (moved-passes f (i .sized) (i .passes) t (k .granted .time .1) (all-take (λ (x : ℕ). x ≤ 64_000_000_000_000) (f .shows) (movedFarm f t .held) held-within) (busy-within .0)
@@ -310,7 +373,8 @@ module _ (w : History) (t : ℕ) (m : List Chunk) where
           chain = all-chain;
           busy = moved-busy;
           held = moved-held;
-          jobs = subst (λ (l : List Job). List·Permᴰ (w .jobs) (map acceptedOf ((i .past ++ begun f t) ++ l))) (sym after) moved-jobs;
+          jobs = subst (λ (l : List Job). List·Permᴰ (w .jobs) (i .gone ++ map acceptedOf ((i .past ++ begun f t) ++ l))) (sym after) moved-jobs;
+          named = i .named;
           numbers = i .numbers;
           latest = subst (All (λ (j : Job). List·Memᴰ j (w .latest))) (sym after) moved-latest;
           clock = refl;
@@ -321,6 +385,7 @@ module _ (w : History) (t : ℕ) (m : List Chunk) where
 -- A call keeps the invariant.
 pub note-inv : (w : History) (c : Call) → Inv w → Inv (note w c)
 note-inv w (offer o) i = ⊎-elim (λ r. subst Inv (sym (refused-note w (offer o) r)) i) (λ k. subst Inv (sym (takes-note w o k)) (takes-inv w o i k)) (outcome (w .farm) (offer o) (i .sized))
+note-inv w (withdraw n) i = ⊎-elim (λ r. subst Inv (sym (refused-note w (withdraw n) r)) i) (λ k. subst Inv (sym (leaves-note w n k)) (leaves-inv w n i k)) (outcome (w .farm) (withdraw n) (i .sized))
 note-inv w (move t m) i = ⊎-elim (λ r. subst Inv (sym (refused-note w (move t m) r)) i) (λ k. subst Inv (sym (moves-note w t m k)) (moves-inv w t m i k)) (outcome (w .farm) (move t m) (i .sized))
 
 -- So does every list of calls.

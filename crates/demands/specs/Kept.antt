@@ -1,17 +1,18 @@
 -- What no call changes, and what follows where no offer gives a compute cost.
 use mathlib.Core.Path.{_≡_, refl, ap, subst, _∙_}
 use mathlib.Core.List.{List, [], _∷_}
-use mathlib.Core.Bool.{Bool, true, false, cond}
+use mathlib.Core.Bool.{Bool, true, false, cond, _&&_}
 use lib.Dec.{eqb}
 use lib.ListN.{length, getD}
 use Rattle.lists.specs.Laws.{All, all-join}
 use Rattle.shares.specs.declared.Costs.{Costs}
 use Rattle.planner.specs.declared.Farm.{Farm}
 use Rattle.planner.specs.declared.ComputeCost.the-variants.{Absent}
-use Rattle.planner.specs.Model.{withCompute}
-use Rattle.planner.specs.Calls.{computeOr, computeOf, planned, accepts, withPlan, offerAsked, offerSaid, offerFarm}
+use Rattle.planner.specs.Model.{withCompute, waitingOf}
+use Rattle.planner.specs.Passes.{passesOf}
+use Rattle.planner.specs.Calls.{hasNumber, computeOr, computeOf, planned, accepts, withPlan, offerAsked, offerSaid, offerFarm, withdrawnFarm, withdrawFarm}
 use Rattle.planner.specs.Clock.{movedFarm, moveAsked, moveFarm}
-use Rattle.demands.specs.CallLists.{Call, offer, move, handed, isGranted, Accepted, jobsBy, acceptedCosts, History, opening, note, run}
+use Rattle.demands.specs.CallLists.{Call, offer, withdraw, move, handed, isGranted, Accepted, jobsBy, acceptedCosts, History, opening, note, run}
 
 -- no call changes these
 pub record Keeps (f g : Farm) : Type 0 where
@@ -22,13 +23,18 @@ pub record Keeps (f g : Farm) : Type 0 where
 
 -- A call opens no farm and closes none, and the shows, their allowances and the costs are those of the farm that it was given.
 pub handed-keeps : (f : Farm) (c : Call) → Keeps f (handed f c)
-unfolding offerFarm moveFarm
+unfolding offerFarm withdrawFarm moveFarm
 handed-keeps f (offer o) = go (eqb (offerAsked f o) 0) (accepts f o)
   where
     go : (a b : Bool) → Keeps f (cond {A = Farm} a (cond b (withPlan f (planned f o)) f) f)
     go true true = record { opened = refl; shows = refl; allowances = refl; costs = refl }
     go true false = record { opened = refl; shows = refl; allowances = refl; costs = refl }
     go false b = record { opened = refl; shows = refl; allowances = refl; costs = refl }
+handed-keeps f (withdraw n) = go (passesOf f && hasNumber n (waitingOf f))
+  where
+    go : (a : Bool) → Keeps f (cond {A = Farm} a (withdrawnFarm f n) f)
+    go true = record { opened = refl; shows = refl; allowances = refl; costs = refl }
+    go false = record { opened = refl; shows = refl; allowances = refl; costs = refl }
 handed-keeps f (move t m) = go (eqb (moveAsked f t (length m)) 0)
   where
     go : (a : Bool) → Keeps f (cond {A = Farm} a (movedFarm f t) f)
@@ -49,6 +55,7 @@ run-keeps w (c ∷ cs) =
 -- the call is no offer that gives a compute cost
 abbrev pub GivesNone : Call → Type 0
 GivesNone (offer o) = o .compute ≡ Absent
+GivesNone (withdraw n) = Unit
 GivesNone (move t m) = Unit
 
 -- the costs that a job was accepted with are these
@@ -61,6 +68,7 @@ call-at f (offer o) h = go (isGranted f (offer o)) (record { number = getD (offe
     go : (b : Bool) (x : Accepted) → x .compute ≡ f .costs .compute → All (At (f .costs)) (cond b (x ∷ []) [])
     go true x e = (ap (withCompute (f .costs)) e, tt)
     go false x e = tt
+call-at f (withdraw n) h = tt
 call-at f (move t m) h = tt
 
 run-at : (c : Costs) (w : History) (cs : List Call) → w .farm .costs ≡ c → All GivesNone cs → All (At c) (w .jobs) → All (At c) (run w cs .jobs)

@@ -8,6 +8,7 @@ pub mod BegunJobs
 pub mod HeldTicks
 pub mod MoveAnswers
 pub mod MovePasses
+pub mod WithdrawPasses
 pub mod Starts
 pub mod Outcome
 pub mod Invariant

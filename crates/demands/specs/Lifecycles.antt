@@ -1,5 +1,5 @@
--- What becomes of each accepted job: it waits until the first granted clock move that reaches the start it has then, which issues all its chunks,
--- each once; no later call issues one.
+-- What becomes of each accepted job: it waits until a granted withdrawal of it, and no chunk of it is ever issued; or until the first granted clock move that
+-- reaches the start it has then, which issues all its chunks, each once; no later call issues one.
 use mathlib.Core.Path.{_≡_, refl, ap, ap₂, sym, subst, _∙_}
 use mathlib.Core.List.{List, [], _∷_, _++_, map, append-nil, List·Memᴰ, List·Memᴰ·head, List·Memᴰ·tail, List·Memᴰ·not-nil, List·Memᴰ·cases-cons, List·Memᴰ·append-cases, Permᴰ·map, Permᴰ·symm}
 use mathlib.Core.Bool.{Bool, true, false, cond, false≢true}
@@ -25,15 +25,16 @@ use Rattle.walk.specs.Chain.{chunks-finish}
 use Rattle.walk.specs.Order.{by-deadline-perm}
 use Rattle.walk.specs.Plan.{plan-numbers}
 use Rattle.soundness.specs.Sweep.{placed-from, spans-all}
-use Rattle.planner.specs.Calls.{newJob, queueOf, planned, withPlan}
+use Rattle.planner.specs.Calls.{hasNumber, ofNumber, without, newJob, queueOf, planned, withPlan, withdrawnFarm}
 use Rattle.demands.specs.OfferPasses.{waiting-planned}
 use Rattle.planner.specs.Clock.{startsBy, startsAfter, begun, left, movedFarm}
-use Rattle.demands.specs.CallLists.{Call, offer, move, handed, linesBy, Accepted, History, note, linesFor, unitsIn, acceptedOf, Fulfils, FromFirst, Waits, NoneOf, IssuesNone, Lifecycle, waits, passes, begins}
+use Rattle.demands.specs.CallLists.{Call, offer, withdraw, move, handed, linesBy, Accepted, History, note, linesFor, unitsIn, acceptedOf, Fulfils, FromFirst, Waits, NoneOf, IssuesNone, Lifecycle, waits, passes, begins, withdrawn}
 use Rattle.timetable.specs.Keep.{keep-all}
 use Rattle.demands.specs.BegunJobs.{begun-left}
-use Rattle.queue.specs.Numbers.{numberOfJob}
+use Rattle.queue.specs.Numbers.{numberOfJob, of-number-has}
+use Rattle.demands.specs.WithdrawPasses.{leaves-others, withdrawn-waiting, others-differ}
 use Rattle.demands.specs.MovePasses.{Waiting, waiting-jobs, waiting-differ, begun-jobs, moved-waiting}
-use Rattle.demands.specs.Outcome.{Refused, Takes, Moves, outcome, chunks-named}
+use Rattle.demands.specs.Outcome.{Refused, Takes, Leaves, Moves, outcome, chunks-named}
 use Rattle.demands.specs.Invariant.{Whole, Inv, waiting-whole, plan-accepted, note-inv}
 
 -- ---- Membership
@@ -159,7 +160,7 @@ waits-as f j x z e m q = record {
   booked = subst (λ (y : Accepted). Fulfils (f .costs) y (linesOf (f .costs) j)) q (whole-fulfils (f .costs) (f .shows) j (waiting-whole f j (at-member (Waiting f) m (waiting-jobs f z e))));
 }
 
--- A job of this number has begun: its number is among those used, and no waiting job has it.
+-- A job of this number has begun or was withdrawn: its number is among those used, and no waiting job has it.
 pub record NoLongerWaits (n : ℕ) (f : Farm) : Type 0 where
   pub used : n ≤ f .used
   pub none : All (λ (j : Job). j .number ≡ n → ⊥) (waitingOf f)
@@ -190,7 +191,7 @@ module _ (xs ys : List Job) (d : Differ (map numberOfJob (xs ++ ys))) where
   pub none-before : (j : Job) → List·Memᴰ j ys → All (λ (i : Job). i .number ≡ j .number → ⊥) xs
   none-before j m = all-map (λ i h. at-member (λ (k : Job). i .number ≡ k .number → ⊥) m h) xs across
 
--- ---- A job that has begun
+-- ---- A job that waits no longer
 
 module _ (n : ℕ) (f : Farm) (z : Sized f) (e : passesOf f ≡ true) where
   no-longer-takes : (o : Offer) → NoLongerWaits n f → Takes f o → NoLongerWaits n (withPlan f (planned f o))
@@ -206,6 +207,11 @@ module _ (n : ℕ) (f : Farm) (z : Sized f) (e : passesOf f ≡ true) where
         none = subst (All (λ (j : Job). j .number ≡ n → ⊥)) (sym (waiting-planned f o z (k .granted) (k .books))) all;
       }
 
+  no-longer-leaves : (k : ℕ) → NoLongerWaits n f → Leaves f k → NoLongerWaits n (withdrawnFarm f k)
+  no-longer-leaves k g l =
+      let P : Job → Type 0 = λ (j : Job). j .number ≡ n → ⊥ in
+      record { used = g .used; none = subst (All P) (sym (withdrawn-waiting f k z e (l .has))) (perm-all P (leaves-others f k z e (l .has)) (g .none) .1) }
+
   no-longer-moves : (t : ℕ) (m : List Chunk) → NoLongerWaits n f → Moves f t m → NoneOf n (linesBy f (move t m)) × NoLongerWaits n (handed f (move t m))
   no-longer-moves t m g k =
       let P : Job → Type 0 = λ (j : Job). j .number ≡ n → ⊥ in
@@ -214,14 +220,16 @@ module _ (n : ℕ) (f : Farm) (z : Sized f) (e : passesOf f ≡ true) where
         subst (NoLongerWaits n) (sym (k .hands)) (record { used = g .used; none = subst (All P) (sym (moved-waiting f z e t)) (both .1) }),
       )
 
-  -- A call issues no chunk of a job that has begun before it, and the job has begun after it too.
+  -- A call issues no chunk of a job that no longer waits before it, and the job does not wait after it either.
   no-longer-stays : (c : Call) → NoLongerWaits n f → NoneOf n (linesBy f c) × NoLongerWaits n (handed f c)
   no-longer-stays (offer o) g =
       (tt, ⊎-elim (λ r. subst (NoLongerWaits n) (sym (r .hands)) g) (λ k. subst (NoLongerWaits n) (sym (k .hands)) (no-longer-takes o g k)) (outcome f (offer o) z))
+  no-longer-stays (withdraw k) g =
+      (tt, ⊎-elim (λ r. subst (NoLongerWaits n) (sym (r .hands)) g) (λ l. subst (NoLongerWaits n) (sym (l .hands)) (no-longer-leaves k g l)) (outcome f (withdraw k) z))
   no-longer-stays (move t m) g =
       ⊎-elim (λ r. (subst (NoneOf n) (sym (r .lines)) tt, subst (NoLongerWaits n) (sym (r .hands)) g)) (λ k. no-longer-moves t m g k) (outcome f (move t m) z)
 
--- No call after it issues a chunk of a job that has begun.
+-- No call after it issues a chunk of a job that no longer waits.
 pub issues-no-more : (n : ℕ) (w : History) (cs : List Call) → Inv w → NoLongerWaits n (w .farm) → IssuesNone n (w .farm) cs
 issues-no-more n w [] i g = tt
 issues-no-more n w (c ∷ cs) i g =
@@ -233,6 +241,13 @@ pub begun-no-longer-waits : (f : Farm) (t : ℕ) (j : Job) → Sized f → passe
 begun-no-longer-waits f t j z e m = record {
   used = at-member (λ (i : Job). Waiting f i × (startsBy t i ≡ true)) m (begun-jobs f z e t) .0 .within .number .1;
   none = subst (All (λ (i : Job). i .number ≡ j .number → ⊥)) (sym (moved-waiting f z e t)) (none-behind (begun f t) (left f t) (begun-differ f t z e) j m);
+}
+
+-- So it is of a job that is withdrawn.
+pub withdrawn-no-longer-waits : (f : Farm) (n : ℕ) → Sized f → passesOf f ≡ true → hasNumber n (waitingOf f) ≡ true → NoLongerWaits n (withdrawnFarm f n)
+withdrawn-no-longer-waits f n z e h = record {
+  used = subst (λ (k : ℕ). k ≤ f .used) (of-number-has n (waitingOf f) h) (perm-all (Waiting f) (leaves-others f n z e h) (waiting-jobs f z e) .0 .within .number .1);
+  none = subst (All (λ (j : Job). j .number ≡ n → ⊥)) (sym (withdrawn-waiting f n z e h)) (others-differ f n z e h);
 }
 
 -- ---- The lifecycle
@@ -285,21 +300,51 @@ lifecycle-passes x w t ms cs i k m rest =
     let late = at-member (λ (b : Job). Waiting f b × (startsAfter t b ≡ true)) (r .among) (keep-all (startsAfter t) (Waiting f) (waitingOf f) (waiting-jobs f (i .sized) (i .passes))) .1 in
     let none : NoneOf (j .number) (spansOfAll (f .costs) (begun f t)) =
     none-of-jobs (f .costs) (j .number) (begun f t) (none-before (begun f t) (left f t) (begun-differ f t (i .sized) (i .passes)) j (r .among)) in
-    passes {c = move t ms} (waits-as f j x (i .sized) (i .passes) in′ (r .image)) (λ q. omega (arith, q .1, leb-false (j .booking .start) t (not-true (startsBy t j) late)))
+    passes {c = move t ms} (waits-as f j x (i .sized) (i .passes) in′ (r .image)) (λ q. omega (arith, q .1, leb-false (j .booking .start) t (not-true (startsBy t j) late))) (λ q. q)
     (subst (λ (a : ℕ). NoneOf a (linesBy f (move t ms))) n (subst (NoneOf (j .number)) (sym (k .lines)) none))
     (rest (subst (Among x) (sym (k .hands)) (subst (λ (l : List Job). List·Memᴰ x (map acceptedOf l)) (sym (moved-waiting f (i .sized) (i .passes) t)) m)))
 
--- Each job that waits is issued by the first granted clock move to reach the start it has then, and never again.
+-- the job leaves by this withdrawal
+lifecycle-withdrawn : (x : Accepted) (w : History) (n : ℕ) (cs : List Call) → Inv w → Leaves (w .farm) n → x ≡ acceptedOf (ofNumber n (waitingOf (w .farm))) → Lifecycle x (w .farm) (withdraw n ∷ cs)
+lifecycle-withdrawn x w n cs i l e =
+    let f = w .farm in
+    let in′ : List·Memᴰ (ofNumber n (waitingOf f)) (waitingOf f) = perm-mem (Permᴰ·symm (leaves-others f n (i .sized) (i .passes) (l .has))) (List·Memᴰ·head refl) in
+    let same : n ≡ x .number = sym (ap (λ (y : Accepted). y .number) e ∙ of-number-has n (waitingOf f) (l .has)) in
+    withdrawn {c = withdraw n} (waits-as f (ofNumber n (waitingOf f)) x (i .sized) (i .passes) in′ (sym e)) (l .says, same) tt
+    (issues-no-more (x .number) (note w (withdraw n)) cs (note-inv w (withdraw n) i)
+    (subst (λ (a : ℕ). NoLongerWaits a (handed f (withdraw n))) same (subst (NoLongerWaits n) (sym (l .hands)) (withdrawn-no-longer-waits f n (i .sized) (i .passes) (l .has)))))
+
+-- the job waits on over this withdrawal
+lifecycle-stays : (x : Accepted) (w : History) (n : ℕ) (cs : List Call) → Inv w → Leaves (w .farm) n → List·Memᴰ x (map acceptedOf (without n (waitingOf (w .farm)))) → Waits x (w .farm)
+    → (Among x (handed (w .farm) (withdraw n)) → Lifecycle x (handed (w .farm) (withdraw n)) cs) → Lifecycle x (w .farm) (withdraw n ∷ cs)
+lifecycle-stays x w n cs i l m h rest =
+    let f = w .farm in
+    let other : x .number ≡ n → ⊥ =
+    at-member (λ (y : Accepted). y .number ≡ n → ⊥) m (all-image (λ (y : Accepted). y .number ≡ n → ⊥) acceptedOf (without n (waitingOf f)) (others-differ f n (i .sized) (i .passes) (l .has))) in
+    passes {c = withdraw n} h (λ q. q) (λ q. other (sym (q .1))) tt
+    (rest (subst (Among x) (sym (l .hands)) (subst (λ (js : List Job). List·Memᴰ x (map acceptedOf js)) (sym (withdrawn-waiting f n (i .sized) (i .passes) (l .has))) m)))
+
+-- Each job that waits is withdrawn, or issued by the first granted clock move to reach the start it has then, and never again.
 pub lifecycle : (x : Accepted) (w : History) (cs : List Call) → Inv w → Among x (w .farm) → Lifecycle x (w .farm) cs
 lifecycle x w [] i m = waits (among-waits x (w .farm) (i .sized) (i .passes) m)
 lifecycle x w (offer o ∷ cs) i m =
-    passes {c = offer o} (among-waits x (w .farm) (i .sized) (i .passes) m) (λ q. q) tt
+    passes {c = offer o} (among-waits x (w .farm) (i .sized) (i .passes) m) (λ q. q) (λ q. q) tt
     (lifecycle x (note w (offer o)) cs (note-inv w (offer o) i) (among-offer x (w .farm) o (i .sized) m))
+lifecycle x w (withdraw n ∷ cs) i m = go (λ h. lifecycle x (note w (withdraw n)) cs (note-inv w (withdraw n) i) h) (outcome (w .farm) (withdraw n) (i .sized))
+  where
+    here : Waits x (w .farm)
+    here = among-waits x (w .farm) (i .sized) (i .passes) m
+
+    go : (Among x (handed (w .farm) (withdraw n)) → Lifecycle x (handed (w .farm) (withdraw n)) cs) → Refused (w .farm) (withdraw n) ⊎ Leaves (w .farm) n → Lifecycle x (w .farm) (withdraw n ∷ cs)
+    go rest (inl r) = passes {c = withdraw n} here (λ q. q) (λ q. false≢true (sym (r .says) ∙ q .0)) tt (rest (subst (Among x) (sym (r .hands)) m))
+    go rest (inr l) =
+        ⊎-elim (λ e. lifecycle-withdrawn x w n cs i l e) (λ k. lifecycle-stays x w n cs i l k here rest)
+        (List·Memᴰ·cases-cons (perm-mem (Permᴰ·map acceptedOf (leaves-others (w .farm) n (i .sized) (i .passes) (l .has))) m))
 lifecycle x w (move t ms ∷ cs) i m = go (λ h. lifecycle x (note w (move t ms)) cs (note-inv w (move t ms) i) h) (outcome (w .farm) (move t ms) (i .sized))
   where
     go : (Among x (handed (w .farm) (move t ms)) → Lifecycle x (handed (w .farm) (move t ms)) cs) → Refused (w .farm) (move t ms) ⊎ Moves (w .farm) t ms → Lifecycle x (w .farm) (move t ms ∷ cs)
     go rest (inl r) =
-        passes {c = move t ms} (among-waits x (w .farm) (i .sized) (i .passes) m) (λ q. false≢true (sym (r .says) ∙ q .0)) (subst (NoneOf (x .number)) (sym (r .lines)) tt) (rest (subst (Among x) (sym (r .hands)) m))
+        passes {c = move t ms} (among-waits x (w .farm) (i .sized) (i .passes) m) (λ q. false≢true (sym (r .says) ∙ q .0)) (λ q. q) (subst (NoneOf (x .number)) (sym (r .lines)) tt) (rest (subst (Among x) (sym (r .hands)) m))
     go rest (inr k) =
         ⊎-elim (λ h. lifecycle-begins x w t ms cs i k h) (λ h. lifecycle-passes x w t ms cs i k h rest)
         (List·Memᴰ·append-cases (map acceptedOf (begun (w .farm) t))

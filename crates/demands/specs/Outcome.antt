@@ -1,4 +1,4 @@
--- What a call does, one of three: it is refused, it takes a job, or it moves the clock.
+-- What a call does, one of four: it is refused, it takes a job, it lets one leave, or it moves the clock.
 use mathlib.Core.Path.{_≡_, refl, ap, ap₂, sym, subst, _∙_}
 use mathlib.Core.List.{List, [], _∷_, _++_, map, List·Memᴰ, List·Memᴰ·head, List·Permᴰ·trans, List·Permᴰ·append-comm}
 use mathlib.Core.Bool.{Bool, true, false}
@@ -20,12 +20,12 @@ use Rattle.planner.specs.Model.{ownCosts, chunksFrom, linesOf, spansOf, spansOf
 use Rattle.planner.specs.Passes.{passesOf}
 use Rattle.walk.specs.Order.{by-start-perm, by-deadline-perm}
 use Rattle.walk.specs.Plan.{plan-numbers}
-use Rattle.planner.specs.Calls.{granted, ofNumber, computeOf, newJob, queueOf, planned, accepts, withPlan, offerAsked, offerSaid, offerFarm, OfferGranted}
+use Rattle.planner.specs.Calls.{granted, hasNumber, ofNumber, computeOf, newJob, queueOf, planned, accepts, withPlan, offerAsked, offerSaid, offerFarm, OfferGranted, withdrawnFarm, withdrawSaid, withdrawFarm}
 use Rattle.planner.specs.OfferSteps.{offer-granted}
 use Rattle.planner.specs.Clock.{startsBy, begun, linesOfAll, issued, movedFarm, moveAsked, moveSaid, moveFarm, moveMemory}
-use Rattle.demands.specs.CallLists.{Call, offer, move, handed, isGranted, withStart, linesBy, Accepted, jobsBy, planBy, timeBy}
+use Rattle.demands.specs.CallLists.{Call, offer, withdraw, move, handed, isGranted, withStart, linesBy, Accepted, jobsBy, goneBy, planBy, timeBy}
 use Rattle.timetable.specs.Keep.{keep-all}
-use Rattle.queue.specs.Numbers.{numberOfJob, of-number-is, of-number-found}
+use Rattle.queue.specs.Numbers.{numberOfJob, of-number-is, has-number, of-number-has}
 use Rattle.planner.specs.ClockSteps.{MoveGranted, move-granted}
 use Rattle.demands.specs.MovePasses.{waiting-differ}
 
@@ -35,6 +35,7 @@ pub record Refused (f : Farm) (c : Call) : Type 0 where
   pub hands : handed f c ≡ f
   pub lines : linesBy f c ≡ []
   pub jobs : jobsBy f c ≡ []
+  pub gone : goneBy f c ≡ []
   pub latest : (js : List Job) → planBy f js c ≡ js
   pub time : (u : ℕ) → timeBy f u c ≡ u
 
@@ -51,6 +52,14 @@ pub record Takes (f : Farm) (o : Offer) : Type 0 where
   pub jobs : jobsBy f (offer o) ≡ taken f o ∷ []
   pub latest : (js : List Job) → planBy f js (offer o) ≡ planned f o
 
+-- a granted withdrawal: a waiting job leaves
+pub record Leaves (f : Farm) (n : ℕ) : Type 0 where
+  pub passes : passesOf f ≡ true
+  pub has : hasNumber n (waitingOf f) ≡ true
+  pub says : isGranted f (withdraw n) ≡ true
+  pub hands : handed f (withdraw n) ≡ withdrawnFarm f n
+  pub gone : goneBy f (withdraw n) ≡ n ∷ []
+
 -- a granted clock move: it issues the chunks of the jobs that start by its time
 pub record Moves (f : Farm) (t : ℕ) (m : List Chunk) : Type 0 where
   pub granted : MoveGranted f t (length m)
@@ -62,6 +71,7 @@ pub record Moves (f : Farm) (t : ℕ) (m : List Chunk) : Type 0 where
 -- what a call may do
 abbrev pub Outcome : Farm → Call → Type 0
 Outcome f (offer o) = Refused f (offer o) ⊎ Takes f o
+Outcome f (withdraw n) = Refused f (withdraw n) ⊎ Leaves f n
 Outcome f (move t m) = Refused f (move t m) ⊎ Moves f t m
 
 -- ---- The lines of a job
@@ -108,7 +118,7 @@ move-moves f t m z g e =
 
 move-stays : (f : Farm) (t : ℕ) (m : List Chunk) → eqb (moveAsked f t (length m)) 0 ≡ false → Refused f (move t m)
 unfolding moveSaid moveFarm moveMemory
-move-stays f t m e = record { says = rw (e, e); hands = rw e; lines = rw (e, e); jobs = refl; latest = λ js. refl; time = λ u. rw (e, e) }
+move-stays f t m e = record { says = rw (e, e); hands = rw e; lines = rw (e, e); jobs = refl; gone = refl; latest = λ js. refl; time = λ u. rw (e, e) }
 
 -- ---- An offer
 
@@ -117,8 +127,8 @@ new-number f o =
     let ws = waitingOf f in
     let j = newJob f o in
     let m : List·Memᴰ j (queueOf f o) = perm-mem (List·Permᴰ·trans (List·Permᴰ·append-comm (j ∷ []) ws) (by-deadline-perm (ws ++ j ∷ []))) (List·Memᴰ·head refl) in
-    of-number-found (planned f o) (f .used + 1)
-    (subst (List·Memᴰ (f .used + 1)) (sym (plan-numbers (termsOf f) (busyOf f) (queueOf f o))) (mem-image numberOfJob m))
+    of-number-has (f .used + 1) (planned f o)
+    (has-number (planned f o) (f .used + 1) (subst (List·Memᴰ (f .used + 1)) (sym (plan-numbers (termsOf f) (busyOf f) (queueOf f o))) (mem-image numberOfJob m)))
 
 offer-takes : (f : Farm) (o : Offer) → OfferGranted f o → eqb (offerAsked f o) 0 ≡ true → accepts f o ≡ true → Takes f o
 unfolding offerSaid offerFarm
@@ -133,15 +143,29 @@ offer-takes f o g e b = record {
 
 offer-stays : (f : Farm) (o : Offer) → eqb (offerAsked f o) 0 ≡ false → Refused f (offer o)
 unfolding offerSaid offerFarm
-offer-stays f o e = record { says = rw (e, e); hands = rw e; lines = refl; jobs = rw (e, e); latest = λ js. rw (e, e); time = λ u. refl }
+offer-stays f o e = record { says = rw (e, e); hands = rw e; lines = refl; jobs = rw (e, e); gone = refl; latest = λ js. rw (e, e); time = λ u. refl }
 
 offer-fails : (f : Farm) (o : Offer) → eqb (offerAsked f o) 0 ≡ true → accepts f o ≡ false → Refused f (offer o)
 unfolding offerSaid offerFarm
-offer-fails f o e b = record { says = rw (e, b); hands = rw (e, b); lines = refl; jobs = rw (e, b); latest = λ js. rw (e, b); time = λ u. refl }
+offer-fails f o e b = record { says = rw (e, b); hands = rw (e, b); lines = refl; jobs = rw (e, b); gone = refl; latest = λ js. rw (e, b); time = λ u. refl }
+
+-- ---- A withdrawal
+
+withdraw-leaves : (f : Farm) (n : ℕ) → passesOf f ≡ true → hasNumber n (waitingOf f) ≡ true → Leaves f n
+unfolding withdrawSaid withdrawFarm
+withdraw-leaves f n e h = record { passes = e; has = h; says = rw (e, h); hands = rw (e, h); gone = rw (e, h) }
+
+withdraw-stays : (f : Farm) (n : ℕ) → passesOf f ≡ true → hasNumber n (waitingOf f) ≡ false → Refused f (withdraw n)
+unfolding withdrawSaid withdrawFarm
+withdraw-stays f n e h = record { says = rw (e, h); hands = rw (e, h); lines = refl; jobs = refl; gone = rw (e, h); latest = λ js. refl; time = λ u. refl }
+
+withdraw-fails : (f : Farm) (n : ℕ) → passesOf f ≡ false → Refused f (withdraw n)
+unfolding withdrawSaid withdrawFarm
+withdraw-fails f n e = record { says = rw e; hands = rw e; lines = refl; jobs = refl; gone = rw e; latest = λ js. refl; time = λ u. refl }
 
 -- ---- Any call
 
--- A call is refused, or takes a job, or moves the clock.
+-- A call is refused, or takes a job, or lets one leave, or moves the clock.
 pub outcome : (f : Farm) (c : Call) → Sized f → Outcome f c
 outcome f (offer o) k = go (eqb (offerAsked f o) 0) (accepts f o) refl refl
   where
@@ -149,6 +173,12 @@ outcome f (offer o) k = go (eqb (offerAsked f o) 0) (accepts f o) refl refl
     go true true p q = inr (offer-takes f o (offer-granted f o (eqb-true (offerAsked f o) 0 p)) p q)
     go true false p q = inl (offer-fails f o p q)
     go false b p q = inl (offer-stays f o p)
+outcome f (withdraw n) k = go (passesOf f) (hasNumber n (waitingOf f)) refl refl
+  where
+    go : (a b : Bool) → passesOf f ≡ a → hasNumber n (waitingOf f) ≡ b → Refused f (withdraw n) ⊎ Leaves f n
+    go true true p q = inr (withdraw-leaves f n p q)
+    go true false p q = inl (withdraw-stays f n p q)
+    go false b p q = inl (withdraw-fails f n p)
 outcome f (move t m) k = go (eqb (moveAsked f t (length m)) 0) refl
   where
     go : (a : Bool) → eqb (moveAsked f t (length m)) 0 ≡ a → Refused f (move t m) ⊎ Moves f t m

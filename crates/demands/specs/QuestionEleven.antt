@@ -1,19 +1,20 @@
--- Question 11: the test that runs says what the paper asks, and the order of the waiting jobs in the array does not matter to it.
+-- Question 11: the test that runs says what the paper asks, the order of the waiting jobs in the array does not matter to it, and it passes with fewer of them.
 use mathlib.Core.Path.{_≡_, ap, sym, subst}
-use mathlib.Core.List.{List, List·Permᴰ, Permᴰ·map}
+use mathlib.Core.List.{List, [], _++_, map, List·Permᴰ, Permᴰ·map}
 use mathlib.Core.Bool.{Bool, true, and-assoc}
 use mathlib.Core.Logic.{_↔_}
-use Prim.Native.Nat.{ℕ}
+use Prim.Native.Nat.{ℕ, _≤_}
 use lib.ListN.{take}
-use Rattle.lists.specs.Laws.{all-take, perm-all, perm-pairs}
+use Rattle.lists.specs.Laws.{Pairs, Differ, all-take, all-append, pairs-parts, perm-all, perm-pairs, map-join}
 use Rattle.limits.specs.Says.{Says, says-true, says-as, says-then, says-both}
 use Rattle.walk.specs.declared.Job.{Job}
 use Rattle.soundness.specs.Sweep.{spans-perm, apart-sym}
 use Rattle.soundness.specs.Sound.{says-waiting}
 use Rattle.planner.specs.declared.Farm.{Farm}
-use Rattle.planner.specs.Model.{waitingOf, busyOf, JobSized, Sized, Apart}
+use Rattle.planner.specs.Model.{spansOfAll, waitingOf, busyOf, JobSized, Sized, Apart}
 use Rattle.planner.specs.Passes.{countsWithin, timesWithin, figuresOf, passesOf, JobWithin, JobSound, Within, Passes}
 use Rattle.planner.specs.PassesSteps.{farmWithin, usable, says-within}
+use Rattle.demands.specs.BegunJobs.{spans-append}
 
 -- The test of the farm itself says that it is opened and that its figures are within their limits.
 says-farm : (f : Farm) → Says (farmWithin f) ((f .opened ≡ true) × Within f)
@@ -29,11 +30,11 @@ says-passes f z =
 pub passes-iff : (f : Farm) → Sized f → (passesOf f ≡ true) ↔ Passes f
 passes-iff f z = let s = says-passes f z in (s .yields, s .follows)
 
--- ---- The order of the array does not matter
+-- ---- Fewer jobs, in any order
 
--- the farm with other waiting jobs
-abbrev pub withJobs : Farm → List Job → Farm
-withJobs f js =
+-- the farm with n waiting jobs, of this array
+abbrev pub withWaiting : Farm → ℕ → List Job → Farm
+withWaiting f n js =
     record {
       opened = f .opened;
       nodes = f .nodes;
@@ -45,13 +46,21 @@ withJobs f js =
       link = f .link;
       free = f .free;
       used = f .used;
-      waiting = f .waiting;
+      waiting = n;
       jobs = js;
     }
 
-any-jobs : (f : Farm) (js : List Job) → List·Permᴰ (waitingOf f) (take (f .waiting) js) → Passes f → Passes (withJobs f js)
-any-jobs f js d p =
+-- the farm with other waiting jobs
+abbrev pub withJobs : Farm → List Job → Farm
+withJobs f js = withWaiting f (f .waiting) js
+
+-- A farm that passes also passes where some of its waiting jobs are gone, and the others stand in any order.
+pub fewer-pass : (f : Farm) (n : ℕ) (gone js : List Job) → n ≤ 128 → List·Permᴰ (waitingOf f) (gone ++ take n js) → Passes f → Passes (withWaiting f n js)
+fewer-pass f n gone js few d p =
     let w = p .within in
+    let c = f .costs in
+    let rest = take n js in
+    let numbers : List Job → List ℕ = map (λ (j : Job). j .number) in
     record {
       opened = p .opened;
       within = record {
@@ -64,13 +73,14 @@ any-jobs f js d p =
         link = w .link;
         free = w .free;
         used = w .used;
-        waiting = w .waiting;
+        waiting = few;
       };
-      jobs = perm-all (JobWithin (figuresOf f)) d (p .jobs);
+      jobs = all-append (JobWithin (figuresOf f)) gone rest (perm-all (JobWithin (figuresOf f)) d (p .jobs)) .1;
       sound = record {
-        jobs = perm-all (JobSound (figuresOf f) (busyOf f)) d (p .sound .jobs);
-        apart = perm-pairs Apart apart-sym (spans-perm (f .costs) d) (p .sound .apart);
-        differ = perm-pairs (λ (a b : ℕ). a ≡ b → ⊥) (λ a b n e. n (sym e)) (Permᴰ·map (λ (j : Job). j .number) d) (p .sound .differ);
+        jobs = all-append (JobSound (figuresOf f) (busyOf f)) gone rest (perm-all (JobSound (figuresOf f) (busyOf f)) d (p .sound .jobs)) .1;
+        apart = pairs-parts Apart (spansOfAll c gone) (spansOfAll c rest) (subst (Pairs Apart) (spans-append c gone rest) (perm-pairs Apart apart-sym (spans-perm c d) (p .sound .apart))) .1;
+        differ = pairs-parts (λ (a b : ℕ). a ≡ b → ⊥) (numbers gone) (numbers rest)
+            (subst Differ (map-join (λ (j : Job). j .number) gone rest) (perm-pairs (λ (a b : ℕ). a ≡ b → ⊥) (λ a b k e. k (sym e)) (Permᴰ·map (λ (j : Job). j .number) d) (p .sound .differ))) .1;
       };
     }
 
@@ -78,4 +88,4 @@ any-jobs f js d p =
 pub any-order : (f g : Farm) → withJobs f (g .jobs) ≡ g → List·Permᴰ (waitingOf f) (waitingOf g) → Passes f → Passes g
 any-order f g e d p =
     let n : g .waiting ≡ f .waiting = ap (λ (h : Farm). h .waiting) (sym e) in
-    subst Passes e (any-jobs f (g .jobs) (subst (λ (k : ℕ). List·Permᴰ (waitingOf f) (take k (g .jobs))) n d) p)
+    subst Passes e (fewer-pass f (f .waiting) [] (g .jobs) (p .within .waiting) (subst (λ (k : ℕ). List·Permᴰ (waitingOf f) (take k (g .jobs))) n d) p)

@@ -1,5 +1,5 @@
 -- A withdrawal from a farm that passes question 11: what the functions of src/withdraw.rt promise each other.
-use mathlib.Core.Path.{_≡_, refl, ap, sym, _∙_}
+use mathlib.Core.Path.{_≡_, ap, sym, _∙_}
 use mathlib.Core.List.{List, _++_}
 use mathlib.Core.Bool.{true, false, false≢true}
 use Prim.Native.Nat.{ℕ, _-_, _≤_, _<_}

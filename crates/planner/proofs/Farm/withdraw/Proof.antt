@@ -1,5 +1,5 @@
 -- `planner::Farm::withdraw` meets its contract: question 11, and then what the farm that passes decides.
-use mathlib.Core.Path.{refl, sym, _∙_}
+use mathlib.Core.Path.{sym, _∙_}
 use native.Mathlib.Omega.{arith}
 use borrow.Author.Tests.{not-true, not-false}
 use Rattle.planner.specs.WithdrawSteps.{withdraw-unsound}
