@@ -49,7 +49,7 @@ loop-again c =
     let a = c .before .before .before .args in
     let l = c .before .before .loop in
     let h = c .before .loop-test .taken in
-    let n = front-next noJob (a .jobs) (a .count) (l .i + 1) h (omega arith) in
+    let n = front-next noJob (a .jobs) (a .count) (l .i + 1) (omega (arith, h)) (omega arith) in
     let same = behind-same noJob (l .left) (a .jobs) (l .i) (l .i + 1) (omega arith) (l .inv .1 .behind) in
     ((l .inv .0 .0, omega arith, omega arith, l .inv .0 .3), rw same (kept-more 128 _ (a .jobs) (l .left) (l .i) _ _ (omega arith) (subst (Kept 128 _ (a .jobs) (l .left) (l .i)) n (l .inv .1))))
 
