@@ -1,5 +1,5 @@
-// The day of document 01's listing, by calls on the farm and with no line read: the opening, its two granted offers, the timetable shown,
-// the clock move and both accounts. Prints an answer a line, its fields parted by tabs; the lines of a timetable come before its answer.
+// The day of document 01's listing, by calls on the farm and with no line read: the opening, its two granted offers, a third that is withdrawn again, the
+// timetable shown, the clock move and both accounts. Prints an answer a line, its fields parted by tabs; the lines of a timetable come before its answer.
 use planner::Answer;
 use planner::ComputeCost;
 use planner::Farm;
@@ -47,6 +47,7 @@ fn put_answer(answer: Answer) {
             held,
             charged,
         } => put(b"account", &[show, held, charged]),
+        Answer::Gone { job } => put(b"gone", &[job]),
         Answer::No(_) => put(b"no", &[0; 0]),
     }
 }
@@ -97,7 +98,9 @@ fn main() {
     let opened = put_reply(Farm::open(3, costs, &[30, 0]));
     let one = put_reply(opened.offer(offered(1, 10, 18)));
     let two = put_reply(one.offer(offered(2, 3, 20)));
-    let shown = put_table(two.show_by_value([UNUSED; 1024]));
+    let three = put_reply(two.offer(offered(2, 2, 24)));
+    let left = put_reply(three.withdraw(3));
+    let shown = put_table(left.show_by_value([UNUSED; 1024]));
     let moved = put_table(shown.clock_by_value(10, [UNUSED; 1024]));
     let charged = put_reply(moved.account(1));
     put_reply(charged.account(2));

@@ -1,27 +1,30 @@
 -- What a day prints is the text of the calls that its readable lines are: the farm after it is the farm that those calls leave (`farm-after`), its `chunk`
--- lines are the chunks that they issue (`chunks-issued`), and the jobs told `yes` those that they accept (`jobs-accepted`). So demand 3, which is about
--- lists of calls, can be said of what the program prints (DayDemand3). The definitions come first.
+-- lines are the chunks that they issue, the jobs told `yes` those that they accept, and those told `gone` those that they withdraw (`read-lines`, with
+-- `chunks-reading`, `accepted-reading` and `gone-reading`). So demand 3, which is about lists of calls, can be said of what the program prints (DayDemand3).
+-- The definitions come first.
 use mathlib.Core.Path.{_≡_, refl, ap, sym, _∙_}
 use mathlib.Core.List.{List, [], _∷_, _++_, map, append-nil, append-assoc}
 use mathlib.Core.Bool.{Bool, true, false, cond, not}
-use Prim.Native.Nat.{ℕ, _-_}
+use mathlib.Core.Logic.{_⊎_, inl, inr, ⊎-elim}
+use Prim.Native.Nat.{ℕ, _+_, _-_}
 use lib.Dec.{leb, eqb}
 use lib.ListN.{length, getD, drop, replicate, length-replicate}
 use lib.Seq.{take-at}
 use Rattle.lists.specs.Laws.{map-join}
+use Rattle.shares.specs.declared.Costs.{Costs}
 use Rattle.walk.specs.declared.Chunk.{Chunk}
 use Rattle.planner.specs.declared.Farm.{Farm}
 use Rattle.planner.specs.declared.Offer.{Offer}
-use Rattle.planner.specs.Calls.{Word, Open, Yes, Clock, Shown, Account, No, Said, granted, heldBy, allowanceOf, refused, openSaid, accountSaid, computeOr, accepts, offerAsked, offerSaid}
-use Rattle.planner.specs.Model.{between}
+use Rattle.planner.specs.Calls.{hasNumber, ofNumber, Word, Open, Yes, Clock, Shown, Account, Gone, No, Said, granted, refused, unopened, showsWithin, openSaid, heldBy, allowanceOf, accountSaid, computeOr, planned, accepts, yesOf, offerAsked, offerSaid, withdrawSaid}
+use Rattle.planner.specs.Model.{between, costsWithin, waitingOf}
 use Rattle.planner.specs.Passes.{passesOf}
 use Rattle.planner.specs.Clock.{issued, moveAsked, moveSaid, moveFarm, moveMemory, moveLines}
 use Rattle.reading.specs.declared.Kind.{Kind}
 use Rattle.reading.specs.declared.Kind.the-variants as kind
 use Rattle.reading.specs.Model.{lineKind, readable, numbersOf}
-use Rattle.protocol.specs.Model.{refusal, answerText, chunkText, chunkTexts, Answered, unread, costsIn, farmLine, computeIn, offerIn, jobLine, lent, clockLine, accountLine, inTurn, called, recorded, longest, answered}
+use Rattle.protocol.specs.Model.{refusal, answerText, chunkText, chunkTexts, Answered, unread, costsIn, farmLine, computeIn, offerIn, jobLine, lent, clockLine, accountLine, withdrawLine, inTurn, called, recorded, longest, answered}
 use Rattle.demands.specs.Kept.{run-keeps}
-use Rattle.demands.specs.CallLists.{Call, offer, move, withStart, linesBy, Accepted, jobsBy, History, opening, run}
+use Rattle.demands.specs.CallLists.{Call, offer, withdraw, move, withStart, linesBy, Accepted, jobsBy, goneBy, History, opening, note, run}
 use Rattle.demands.specs.BegunJobs.{chunkOf}
 use Rattle.demands.specs.Invariant.{run-append}
 use Rattle.printed.specs.Model.{answers}
@@ -32,12 +35,14 @@ use Rattle.printed.specs.Model.{answers}
 abbrev pub blank : Chunk
 blank = record { job = 0; show = 0; node = 0; units = 0; start = 0; sent = 0; finish = 0 }
 
--- the call that a line of a kind and its numbers is once a farm is opened: a `job` line an offer, a `clock` line a move, the others none
+-- the call that a line of a kind and its numbers is once a farm is opened: a `job` line an offer, a `clock` line a move, a `withdraw` line a withdrawal, the
+-- others none
 abbrev pub callOf : Kind → List ℕ → List Call
 callOf kind.Farm ns = []
 callOf kind.Job ns = offer (offerIn (length ns) ns) ∷ []
 callOf kind.Clock ns = move (getD ns 0 0) (replicate lent blank) ∷ []
 callOf kind.Account ns = []
+callOf kind.Withdraw ns = withdraw (getD ns 0 0) ∷ []
 callOf kind.Unreadable ns = []
 
 -- the call that a line is: none where it is too long or cannot be read
@@ -69,18 +74,13 @@ unfoldable pub printTexts : List Print → List ℕ
 printTexts [] = []
 printTexts (p ∷ ps) = printText p ++ printTexts ps
 
--- the records of the `chunk` lines among them
-unfoldable pub chunksIn : List Print → List Chunk
-chunksIn [] = []
-chunksIn (chunk x ∷ ps) = x ∷ chunksIn ps
-chunksIn (answer s ∷ ps) = chunksIn ps
-
 -- what a line of a kind in its turn prints: its answer, and before that of a clock move the lines that it issues
 unfoldable pub calledPrints : Farm → Kind → List ℕ → List ℕ → List Print
 calledPrints f kind.Farm ns al = answer (openSaid (getD ns 0 0) (costsIn ns) al) ∷ []
 calledPrints f kind.Job ns al = answer (offerSaid f (offerIn (length ns) ns)) ∷ []
 calledPrints f kind.Clock ns al = map chunk (moveLines f (getD ns 0 0) lent) ++ answer (moveSaid f (getD ns 0 0) lent) ∷ []
 calledPrints f kind.Account ns al = answer (accountSaid f (getD ns 0 0)) ∷ []
+calledPrints f kind.Withdraw ns al = answer (withdrawSaid f (getD ns 0 0)) ∷ []
 calledPrints f kind.Unreadable ns al = answer (refused 11) ∷ []
 
 -- `no 11`
@@ -99,6 +99,39 @@ unfoldable pub prints : Farm → List (List ℕ) → List Print
 prints f [] = []
 prints f (l ∷ ls) = linePrints f l ++ prints (answered f l .farm) ls
 
+-- ---- What can be read of printed lines
+
+-- what each of them gives, one after the other
+unfoldable pub collect : {A : Type 0} → (Print → List A) → List Print → List A
+collect g [] = []
+collect g (p ∷ ps) = g p ++ collect g ps
+
+-- the records of the `chunk` lines among them
+abbrev pub chunkIn : Print → List Chunk
+chunkIn (chunk x) = x ∷ []
+chunkIn (answer s) = []
+
+abbrev pub chunksIn : List Print → List Chunk
+chunksIn ps = collect chunkIn ps
+
+-- what an answer tells, by its word and values; a `chunk` line tells nothing
+abbrev pub told : {A : Type 0} → (Word → List ℕ → List A) → Print → List A
+told g (chunk x) = []
+told g (answer s) = g (s .word) (s .values)
+
+-- the jobs told `gone`
+abbrev pub goneAs : Word → List ℕ → List ℕ
+goneAs Open vs = []
+goneAs Yes vs = []
+goneAs Clock vs = []
+goneAs Shown vs = []
+goneAs Account vs = []
+goneAs Gone vs = getD vs 0 0 ∷ []
+goneAs No vs = []
+
+abbrev pub goneIn : List Print → List ℕ
+goneIn ps = collect (told goneAs) ps
+
 -- the job accepted by an answer to a line with these numbers: a `yes` with its job number, for the show, size and deadline on the line, and for the
 -- compute cost on the line or, where there is none, the farm's, p
 abbrev pub acceptedAs : ℕ → List ℕ → Word → List ℕ → List Accepted
@@ -107,31 +140,32 @@ acceptedAs p ns Yes vs = record { number = getD vs 0 0; show = getD ns 0 0; size
 acceptedAs p ns Clock vs = []
 acceptedAs p ns Shown vs = []
 acceptedAs p ns Account vs = []
+acceptedAs p ns Gone vs = []
 acceptedAs p ns No vs = []
 
-unfoldable pub acceptedOn : ℕ → List ℕ → List Print → List Accepted
-acceptedOn p ns [] = []
-acceptedOn p ns (chunk x ∷ ps) = acceptedOn p ns ps
-acceptedOn p ns (answer s ∷ ps) = acceptedAs p ns (s .word) (s .values) ++ acceptedOn p ns ps
+abbrev pub acceptedOn : Farm → List ℕ → Print → List Accepted
+acceptedOn f ns = told (acceptedAs (f .costs .compute) ns)
 
--- the jobs that a line is told `yes` to, and those that lines are
-abbrev pub acceptedBy : Farm → List ℕ → List Accepted
-acceptedBy f l = acceptedOn (f .costs .compute) (numbersOf l) (linePrints f l)
+-- what can be read of the prints of lines, each by the farm before it and its numbers
+unfoldable pub readIn : {A : Type 0} → (Farm → List ℕ → Print → List A) → Farm → List (List ℕ) → List A
+readIn r f [] = []
+readIn r f (l ∷ ls) = collect (r f (numbersOf l)) (linePrints f l) ++ readIn r (answered f l .farm) ls
 
-unfoldable pub acceptedIn : Farm → List (List ℕ) → List Accepted
-acceptedIn f [] = []
-acceptedIn f (l ∷ ls) = acceptedBy f l ++ acceptedIn (answered f l .farm) ls
+-- the jobs that lines are told `yes` to
+abbrev pub acceptedIn : Farm → List (List ℕ) → List Accepted
+acceptedIn f ls = readIn acceptedOn f ls
 
 -- ---- The farm
 
 kind-farm : (w : History) (k : Kind) (ns : List ℕ) → w .farm .opened ≡ true → recorded (w .farm) k ns .farm ≡ run w (callOf k ns) .farm
-unfolding recorded called jobLine clockLine accountLine run
+unfolding recorded called jobLine clockLine accountLine withdrawLine run
 kind-farm w kind.Farm ns o = ap (λ (b : Bool). cond {A = Answered} (not b) (farmLine ns (drop 5 ns)) (unread (w .farm)) .farm) o
 kind-farm w kind.Job ns o = ap (λ (b : Bool). cond {A = Answered} b (jobLine (w .farm) (offerIn (length ns) ns)) (unread (w .farm)) .farm) o
 kind-farm w kind.Clock ns o =
     ap (λ (b : Bool). cond {A = Answered} b (clockLine (w .farm) (getD ns 0 0)) (unread (w .farm)) .farm) o
     ∙ ap (moveFarm (w .farm) (getD ns 0 0)) (sym (length-replicate {A = Chunk} lent blank))
 kind-farm w kind.Account ns o = ap (λ (b : Bool). cond {A = Answered} b (accountLine (w .farm) (getD ns 0 0)) (unread (w .farm)) .farm) o
+kind-farm w kind.Withdraw ns o = ap (λ (b : Bool). cond {A = Answered} b (withdrawLine (w .farm) (getD ns 0 0)) (unread (w .farm)) .farm) o
 kind-farm w kind.Unreadable ns o = refl
 
 line-farm : (w : History) (l : List ℕ) → w .farm .opened ≡ true → answered (w .farm) l .farm ≡ run w (lineCall l) .farm
@@ -177,7 +211,7 @@ unfolding answerText
 unread-text = texts-one (refused 11)
 
 called-text : (f : Farm) (k : Kind) (ns al : List ℕ) → printTexts (calledPrints f k ns al) ≡ called f k (length ns) ns al .text
-unfolding called calledPrints farmLine jobLine clockLine accountLine
+unfolding called calledPrints farmLine jobLine clockLine accountLine withdrawLine
 called-text f kind.Farm ns al = texts-one (openSaid (getD ns 0 0) (costsIn ns) al)
 called-text f kind.Job ns al = texts-one (offerSaid f (offerIn (length ns) ns))
 called-text f kind.Clock ns al =
@@ -186,6 +220,7 @@ called-text f kind.Clock ns al =
     ∙ ap (λ (l : List ℕ). l ++ printTexts (answer (moveSaid f t lent) ∷ [])) (texts-chunks (moveLines f t lent))
     ∙ ap (λ (l : List ℕ). chunkTexts (moveLines f t lent) ++ l) (texts-one (moveSaid f t lent))
 called-text f kind.Account ns al = texts-one (accountSaid f (getD ns 0 0))
+called-text f kind.Withdraw ns al = texts-one (withdrawSaid f (getD ns 0 0))
 called-text f kind.Unreadable ns al = unread-text
 
 recorded-text : (f : Farm) (k : Kind) (ns : List ℕ) → printTexts (recordedPrints f k ns) ≡ recorded f k ns .text
@@ -216,17 +251,164 @@ answers-text f (l ∷ ls) =
     ∙ ap (λ (t : List ℕ). printTexts (linePrints f l) ++ t) (answers-text (answered f l .farm) ls)
     ∙ sym (texts-append (linePrints f l) (prints (answered f l .farm) ls))
 
+-- ---- What is read of lines is what is noted of their calls
+
+-- What is collected of two lists of printed lines is that of the one, then that of the other.
+pub collect-append : {A : Type 0} (g : Print → List A) (ps qs : List Print) → collect g (ps ++ qs) ≡ collect g ps ++ collect g qs
+unfolding collect
+collect-append g [] qs = refl
+collect-append {A} g (p ∷ ps) qs = ap (λ (l : List A). g p ++ l) (collect-append g ps qs) ∙ sym (append-assoc (g p) (collect g ps) (collect g qs))
+
+-- What is collected of all that lines print is read line by line.
+pub collect-prints : {A : Type 0} (g : Print → List A) (f : Farm) (ls : List (List ℕ)) → collect g (prints f ls) ≡ readIn (λ f ns. g) f ls
+unfolding collect prints readIn
+collect-prints g f [] = refl
+collect-prints {A} g f (l ∷ ls) =
+    collect-append g (linePrints f l) (prints (answered f l .farm) ls) ∙ ap (λ (xs : List A). collect g (linePrints f l) ++ xs) (collect-prints g (answered f l .farm) ls)
+
+-- of every line in its turn, what r reads is what is noted of the call that it is; it reads nothing of `no 11` and of an opening
+pub record Reading {A : Type 0} (r : Farm → List ℕ → Print → List A) (noted : History → List A) : Type 0 where
+  pub unread : (f : Farm) (ns : List ℕ) → r f ns (answer (refused 11)) ≡ []
+  pub opens : (f : Farm) (ns : List ℕ) (n : ℕ) (c : Costs) (al : List ℕ) → r f ns (answer (openSaid n c al)) ≡ []
+  pub starts : (f : Farm) → noted (opening f) ≡ []
+  pub calls : (w : History) (k : Kind) (ns al : List ℕ) → noted w ++ collect (r (w .farm) ns) (calledPrints (w .farm) k ns al) ≡ noted (run w (callOf k ns))
+
+module _ {A : Type 0} (r : Farm → List ℕ → Print → List A) (noted : History → List A) (x : Reading r noted) where
+  unread-none : (f : Farm) (ns : List ℕ) → collect (r f ns) unreadPrints ≡ []
+  unfolding collect
+  unread-none f ns = ap (λ (l : List A). l ++ []) (x .unread f ns)
+
+  nothing : (w : History) (l : List A) → l ≡ [] → noted w ++ l ≡ noted w
+  nothing w l e = ap (λ (k : List A). noted w ++ k) e ∙ append-nil (noted w)
+
+  kind-read : (w : History) (k : Kind) (ns : List ℕ) → w .farm .opened ≡ true → noted w ++ collect (r (w .farm) ns) (recordedPrints (w .farm) k ns) ≡ noted (run w (callOf k ns))
+  unfolding recordedPrints run
+  kind-read w k ns o = go k
+    where
+      read : (k : Kind) → Bool → List A
+      read k b = noted w ++ collect (r (w .farm) ns) (cond b (calledPrints (w .farm) k ns (drop 5 ns)) unreadPrints)
+
+      in-turn : (k : Kind) → inTurn k (w .farm .opened) ≡ true → read k (inTurn k (w .farm .opened)) ≡ noted (run w (callOf k ns))
+      in-turn k e = ap (read k) e ∙ x .calls w k ns (drop 5 ns)
+
+      out-of-turn : (k : Kind) → inTurn k (w .farm .opened) ≡ false → read k (inTurn k (w .farm .opened)) ≡ noted w
+      out-of-turn k e = ap (read k) e ∙ nothing w _ (unread-none (w .farm) ns)
+
+      go : (k : Kind) → read k (inTurn k (w .farm .opened)) ≡ noted (run w (callOf k ns))
+      go kind.Farm = out-of-turn kind.Farm (ap not o)
+      go kind.Job = in-turn kind.Job o
+      go kind.Clock = in-turn kind.Clock o
+      go kind.Account = in-turn kind.Account o
+      go kind.Withdraw = in-turn kind.Withdraw o
+      go kind.Unreadable = out-of-turn kind.Unreadable refl
+
+  line-read : (w : History) (l : List ℕ) → w .farm .opened ≡ true → noted w ++ collect (r (w .farm) (numbersOf l)) (linePrints (w .farm) l) ≡ noted (run w (lineCall l))
+  unfolding linePrints lineCall run
+  line-read w l o = go (leb (length l) longest) (readable l)
+    where
+      none : noted w ++ collect (r (w .farm) (numbersOf l)) unreadPrints ≡ noted w
+      none = nothing w _ (unread-none (w .farm) (numbersOf l))
+
+      go : (a b : Bool) → noted w ++ collect (r (w .farm) (numbersOf l)) (cond a (cond b (recordedPrints (w .farm) (lineKind l) (numbersOf l)) unreadPrints) unreadPrints)
+          ≡ noted (run w (cond {A = List Call} a (cond b (callOf (lineKind l) (numbersOf l)) []) []))
+      go true true = kind-read w (lineKind l) (numbersOf l) o
+      go true false = none
+      go false b = none
+
+  read-from : (w : History) (ls : List (List ℕ)) → w .farm .opened ≡ true → noted w ++ readIn r (w .farm) ls ≡ noted (run w (callsIn ls))
+  unfolding readIn callsIn run
+  read-from w [] o = append-nil (noted w)
+  read-from w (l ∷ ls) o =
+      sym (append-assoc (noted w) (collect (r (w .farm) (numbersOf l)) (linePrints (w .farm) l)) (readIn r (answered (w .farm) l .farm) ls))
+      ∙ ap (λ (k : List A). k ++ readIn r (answered (w .farm) l .farm) ls) (line-read w l o)
+      ∙ ap (λ (g : Farm). noted (run w (lineCall l)) ++ readIn r g ls) (line-farm w l o)
+      ∙ read-from (run w (lineCall l)) ls (run-keeps w (lineCall l) .opened ∙ o)
+      ∙ ap noted (sym (run-append w (lineCall l) (callsIn ls)))
+
+  -- What is read of lines after an opening is what is noted of their calls, in order.
+  pub read-lines : (f : Farm) (ls : List (List ℕ)) → f .opened ≡ true → readIn r f ls ≡ noted (run (opening f) (callsIn ls))
+  read-lines f ls o = ap (λ (k : List A). k ++ readIn r f ls) (sym (x .starts f)) ∙ read-from (opening f) ls o
+
+  -- Before it nothing is read of a line.
+  pub read-unopened : (l : List ℕ) → collect (r unopened (numbersOf l)) (linePrints unopened l) ≡ []
+  unfolding linePrints recordedPrints calledPrints collect
+  read-unopened l = go (leb (length l) longest) (readable l)
+    where
+      ns : List ℕ
+      ns = numbersOf l
+
+      opened : (k : Kind) → collect (r unopened ns) (recordedPrints unopened k ns) ≡ []
+      opened kind.Farm = ap (λ (k : List A). k ++ []) (x .opens unopened ns (getD ns 0 0) (costsIn ns) (drop 5 ns))
+      opened kind.Job = unread-none unopened ns
+      opened kind.Clock = unread-none unopened ns
+      opened kind.Account = unread-none unopened ns
+      opened kind.Withdraw = unread-none unopened ns
+      opened kind.Unreadable = unread-none unopened ns
+
+      go : (a b : Bool) → collect (r unopened ns) (cond a (cond b (recordedPrints unopened (lineKind l) ns) unreadPrints) unreadPrints) ≡ []
+      go true true = opened (lineKind l)
+      go true false = unread-none unopened ns
+      go false b = unread-none unopened ns
+
+-- ---- The words of answers
+
+-- an answer is a grant under this word, or a refusal
+abbrev Speaks : Said → Word → Type 0
+Speaks s w = (s .word ≡ w) ⊎ (s .word ≡ No)
+
+-- Nothing is read of an answer where nothing is read under its word and under `no`.
+speaks-none : {A : Type 0} (g : Word → List ℕ → List A) (s : Said) (w : Word) → Speaks s w → ((vs : List ℕ) → g w vs ≡ []) → ((vs : List ℕ) → g No vs ≡ []) → g (s .word) (s .values) ≡ []
+speaks-none g s w h p q = ⊎-elim (λ e. rw e (p (s .values))) (λ e. rw e (q (s .values))) h
+
+open-speaks : (n : ℕ) (c : Costs) (al : List ℕ) → Speaks (openSaid n c al) Open
+unfolding openSaid
+open-speaks n c al = go (between 1 n 64) (costsWithin c) (showsWithin al)
+  where
+    go : (a b d : Bool) → Speaks (cond a (cond b (cond d (granted Open (n ∷ length al ∷ [])) (refused 3)) (refused 2)) (refused 1)) Open
+    go true true true = inl refl
+    go true true false = inr refl
+    go true false d = inr refl
+    go false b d = inr refl
+
+offer-speaks : (f : Farm) (o : Offer) → Speaks (offerSaid f o) Yes
+unfolding offerSaid
+offer-speaks f o = go (eqb (offerAsked f o) 0) (accepts f o) (yesOf (f .costs) (ofNumber (f .used + 1) (planned f o)) .values)
+  where
+    go : (a b : Bool) (vs : List ℕ) → Speaks (cond a (cond b (granted Yes vs) (refused 8)) (refused (offerAsked f o))) Yes
+    go true true vs = inl refl
+    go true false vs = inr refl
+    go false b vs = inr refl
+
+move-speaks : (f : Farm) (t n : ℕ) → Speaks (moveSaid f t n) Clock
+unfolding moveSaid
+move-speaks f t n = go (eqb (moveAsked f t n) 0)
+  where
+    go : (a : Bool) → Speaks (cond a (granted Clock (t ∷ length (issued f t) ∷ [])) (refused (moveAsked f t n))) Clock
+    go true = inl refl
+    go false = inr refl
+
+account-speaks : (f : Farm) (s : ℕ) → Speaks (accountSaid f s) Account
+unfolding accountSaid
+account-speaks f s = go (passesOf f) (between 1 s (f .shows)) (s ∷ heldBy f s ∷ (heldBy f s - allowanceOf f s) ∷ [])
+  where
+    go : (a b : Bool) (vs : List ℕ) → Speaks (cond a (cond b (granted Account vs) (refused 4)) (refused 11)) Account
+    go true true vs = inl refl
+    go true false vs = inr refl
+    go false b vs = inr refl
+
+withdraw-speaks : (f : Farm) (n : ℕ) → Speaks (withdrawSaid f n) Gone
+unfolding withdrawSaid
+withdraw-speaks f n = go (passesOf f) (hasNumber n (waitingOf f))
+  where
+    go : (a b : Bool) → Speaks (cond a (cond b (granted Gone (n ∷ [])) (refused 12)) (refused 11)) Gone
+    go true true = inl refl
+    go true false = inr refl
+    go false b = inr refl
+
 -- ---- The chunk lines
 
--- The records of two lists of printed lines are those of the one, then those of the other.
-pub chunks-append : (ps qs : List Print) → chunksIn (ps ++ qs) ≡ chunksIn ps ++ chunksIn qs
-unfolding chunksIn
-chunks-append [] qs = refl
-chunks-append (chunk x ∷ ps) qs = ap (λ (l : List Chunk). x ∷ l) (chunks-append ps qs)
-chunks-append (answer s ∷ ps) qs = chunks-append ps qs
-
 chunks-printed : (xs : List Chunk) (s : Said) → chunksIn (map chunk xs ++ answer s ∷ []) ≡ xs
-unfolding chunksIn
+unfolding collect
 chunks-printed [] s = refl
 chunks-printed (x ∷ xs) s = ap (λ (l : List Chunk). x ∷ l) (chunks-printed xs s)
 
@@ -243,133 +425,118 @@ move-chunks f t m = go (eqb (moveAsked f t (length m)) 0) refl
     go true e = rw e (map-started f _ ∙ take-at (issued f t) (drop (length (issued f t)) m) (length (issued f t)) refl)
     go false e = rw (e, e)
 
--- A line that is no call issues nothing.
-no-chunks : (w : History) → map chunkOf (w .lines) ++ [] ≡ map chunkOf (w .lines)
-no-chunks w = append-nil (map chunkOf (w .lines))
-
-kind-chunks : (w : History) (k : Kind) (ns : List ℕ) → w .farm .opened ≡ true
-    → map chunkOf (w .lines) ++ chunksIn (recordedPrints (w .farm) k ns) ≡ map chunkOf (run w (callOf k ns) .lines)
-unfolding recordedPrints calledPrints chunksIn run
-kind-chunks w kind.Farm ns o =
-    ap (λ (b : Bool). map chunkOf (w .lines) ++ chunksIn (cond (not b) (calledPrints (w .farm) kind.Farm ns (drop 5 ns)) unreadPrints)) o ∙ no-chunks w
-kind-chunks w kind.Job ns o =
-    ap (λ (b : Bool). map chunkOf (w .lines) ++ chunksIn (cond b (calledPrints (w .farm) kind.Job ns (drop 5 ns)) unreadPrints)) o
-    ∙ no-chunks w
-    ∙ ap (map chunkOf) (sym (append-nil (w .lines)))
-kind-chunks w kind.Clock ns o =
-    let f = w .farm in
-    let t = getD ns 0 0 in
-    let m : List Chunk = replicate lent blank in
-    ap (λ (b : Bool). map chunkOf (w .lines) ++ chunksIn (cond b (calledPrints (w .farm) kind.Clock ns (drop 5 ns)) unreadPrints)) o
-    ∙ ap (λ (l : List Chunk). map chunkOf (w .lines) ++ l)
-    (chunks-printed (moveLines f t lent) (moveSaid f t lent) ∙ ap (moveLines f t) (sym (length-replicate {A = Chunk} lent blank)) ∙ sym (move-chunks f t m))
-    ∙ sym (map-join chunkOf (w .lines) (linesBy f (move t m)))
-kind-chunks w kind.Account ns o =
-    ap (λ (b : Bool). map chunkOf (w .lines) ++ chunksIn (cond b (calledPrints (w .farm) kind.Account ns (drop 5 ns)) unreadPrints)) o ∙ no-chunks w
-kind-chunks w kind.Unreadable ns o = no-chunks w
-
-line-chunks : (w : History) (l : List ℕ) → w .farm .opened ≡ true → map chunkOf (w .lines) ++ chunksIn (linePrints (w .farm) l) ≡ map chunkOf (run w (lineCall l) .lines)
-unfolding linePrints lineCall run chunksIn
-line-chunks w l o = go (leb (length l) longest) (readable l)
+-- The `chunk` lines printed are the chunks that the calls issue.
+pub chunks-reading : Reading (λ f ns. chunkIn) (λ (w : History). map chunkOf (w .lines))
+unfolding calledPrints collect run
+chunks-reading = record { unread = λ f ns. refl; opens = λ f ns n c al. refl; starts = λ f. refl; calls = calls }
   where
-    go : (a b : Bool) → map chunkOf (w .lines) ++ chunksIn (cond a (cond b (recordedPrints (w .farm) (lineKind l) (numbersOf l)) unreadPrints) unreadPrints)
-        ≡ map chunkOf (run w (cond {A = List Call} a (cond b (callOf (lineKind l) (numbersOf l)) []) []) .lines)
-    go true true = kind-chunks w (lineKind l) (numbersOf l) o
-    go true false = no-chunks w
-    go false b = no-chunks w
+    none : (w : History) → map chunkOf (w .lines) ++ [] ≡ map chunkOf (w .lines ++ [])
+    none w = append-nil (map chunkOf (w .lines)) ∙ ap (map chunkOf) (sym (append-nil (w .lines)))
 
-chunks-from : (w : History) (ls : List (List ℕ)) → w .farm .opened ≡ true → map chunkOf (w .lines) ++ chunksIn (prints (w .farm) ls) ≡ map chunkOf (run w (callsIn ls) .lines)
-unfolding prints callsIn run chunksIn
-chunks-from w [] o = no-chunks w
-chunks-from w (l ∷ ls) o =
-    let v = run w (lineCall l) in
-    ap (λ (xs : List Chunk). map chunkOf (w .lines) ++ xs) (chunks-append (linePrints (w .farm) l) (prints (answered (w .farm) l .farm) ls))
-    ∙ sym (append-assoc (map chunkOf (w .lines)) (chunksIn (linePrints (w .farm) l)) (chunksIn (prints (answered (w .farm) l .farm) ls)))
-    ∙ ap (λ (xs : List Chunk). xs ++ chunksIn (prints (answered (w .farm) l .farm) ls)) (line-chunks w l o)
-    ∙ ap (λ (g : Farm). map chunkOf (run w (lineCall l) .lines) ++ chunksIn (prints g ls)) (line-farm w l o)
-    ∙ chunks-from v ls (run-keeps w (lineCall l) .opened ∙ o)
-    ∙ ap (λ (u : History). map chunkOf (u .lines)) (sym (run-append w (lineCall l) (callsIn ls)))
+    calls : (w : History) (k : Kind) (ns al : List ℕ) → map chunkOf (w .lines) ++ chunksIn (calledPrints (w .farm) k ns al) ≡ map chunkOf (run w (callOf k ns) .lines)
+    calls w kind.Farm ns al = append-nil (map chunkOf (w .lines))
+    calls w kind.Job ns al = none w
+    calls w kind.Clock ns al =
+        let f = w .farm in
+        let t = getD ns 0 0 in
+        let m : List Chunk = replicate lent blank in
+        ap (λ (l : List Chunk). map chunkOf (w .lines) ++ l)
+        (chunks-printed (moveLines f t lent) (moveSaid f t lent) ∙ ap (moveLines f t) (sym (length-replicate {A = Chunk} lent blank)) ∙ sym (move-chunks f t m))
+        ∙ sym (map-join chunkOf (w .lines) (linesBy f (move t m)))
+    calls w kind.Account ns al = append-nil (map chunkOf (w .lines))
+    calls w kind.Withdraw ns al = none w
+    calls w kind.Unreadable ns al = append-nil (map chunkOf (w .lines))
 
--- The `chunk` lines that lines print are the chunks that their calls issue, in order.
-pub chunks-issued : (f : Farm) (ls : List (List ℕ)) → f .opened ≡ true → chunksIn (prints f ls) ≡ map chunkOf (run (opening f) (callsIn ls) .lines)
-chunks-issued f ls o = chunks-from (opening f) ls o
+-- ---- Accepted and withdrawn jobs
 
--- ---- The accepted jobs
+-- Of a move what its answer tells is read.
+told-after : {A : Type 0} (g : Word → List ℕ → List A) (xs : List Chunk) (s : Said) → collect (told g) (map chunk xs ++ answer s ∷ []) ≡ g (s .word) (s .values)
+unfolding collect
+told-after g [] s = append-nil (g (s .word) (s .values))
+told-after g (x ∷ xs) s = told-after g xs s
 
-accepted-after : (p : ℕ) (ns : List ℕ) (xs : List Chunk) (s : Said) → acceptedOn p ns (map chunk xs ++ answer s ∷ []) ≡ acceptedAs p ns (s .word) (s .values)
-unfolding acceptedOn
-accepted-after p ns [] s = append-nil (acceptedAs p ns (s .word) (s .values))
-accepted-after p ns (x ∷ xs) s = accepted-after p ns xs s
+-- what is told of openings, accounts, clock moves and refusals is nothing, and what is told of offers and withdrawals is what is noted of them
+pub record Tells {A : Type 0} (g : Farm → List ℕ → Word → List ℕ → List A) (noted : History → List A) : Type 0 where
+  pub opened : (f : Farm) (ns vs : List ℕ) → g f ns Open vs ≡ []
+  pub clock : (f : Farm) (ns vs : List ℕ) → g f ns Clock vs ≡ []
+  pub account : (f : Farm) (ns vs : List ℕ) → g f ns Account vs ≡ []
+  pub no : (f : Farm) (ns vs : List ℕ) → g f ns No vs ≡ []
+  pub starts : (f : Farm) → noted (opening f) ≡ []
+  pub offers : (w : History) (ns : List ℕ) → noted w ++ told (g (w .farm) ns) (answer (offerSaid (w .farm) (offerIn (length ns) ns))) ≡ noted (note w (offer (offerIn (length ns) ns)))
+  pub withdrawals : (w : History) (ns : List ℕ) → noted w ++ told (g (w .farm) ns) (answer (withdrawSaid (w .farm) (getD ns 0 0))) ≡ noted (note w (withdraw (getD ns 0 0)))
+  pub moves : (w : History) (t : ℕ) (m : List Chunk) → noted w ≡ noted (note w (move t m))
 
-offer-accepted : (f : Farm) (ns : List ℕ) → acceptedOn (f .costs .compute) ns (answer (offerSaid f (offerIn (length ns) ns)) ∷ []) ≡ jobsBy f (offer (offerIn (length ns) ns))
-unfolding acceptedOn offerSaid
+tells-reading : {A : Type 0} (g : Farm → List ℕ → Word → List ℕ → List A) (noted : History → List A) → Tells g noted → Reading (λ f ns. told (g f ns)) noted
+unfolding calledPrints collect run
+tells-reading {A} g noted x = record {
+  unread = λ f ns. x .no f ns [];
+  opens = λ f ns n c al. speaks-none (g f ns) (openSaid n c al) Open (open-speaks n c al) (x .opened f ns) (x .no f ns);
+  starts = x .starts;
+  calls = calls;
+}
+  where
+    none : (w : History) (l : List A) → l ≡ [] → noted w ++ l ≡ noted w
+    none w l e = ap (λ (k : List A). noted w ++ k) e ∙ append-nil (noted w)
+
+    one : (w : History) (ns : List ℕ) (s : Said) (v : Word) → Speaks s v → ((vs : List ℕ) → g (w .farm) ns v vs ≡ []) → noted w ++ (told (g (w .farm) ns) (answer s) ++ []) ≡ noted w
+    one w ns s v h q = none w (told (g (w .farm) ns) (answer s) ++ []) (append-nil (told (g (w .farm) ns) (answer s)) ∙ speaks-none (g (w .farm) ns) s v h q (x .no (w .farm) ns))
+
+    calls : (w : History) (k : Kind) (ns al : List ℕ) → noted w ++ collect (told (g (w .farm) ns)) (calledPrints (w .farm) k ns al) ≡ noted (run w (callOf k ns))
+    calls w kind.Farm ns al = one w ns (openSaid (getD ns 0 0) (costsIn ns) al) Open (open-speaks (getD ns 0 0) (costsIn ns) al) (x .opened (w .farm) ns)
+    calls w kind.Job ns al = ap (λ (l : List A). noted w ++ l) (append-nil _) ∙ x .offers w ns
+    calls w kind.Clock ns al =
+        let s = moveSaid (w .farm) (getD ns 0 0) lent in
+        none w (collect (told (g (w .farm) ns)) (map chunk (moveLines (w .farm) (getD ns 0 0) lent) ++ answer s ∷ []))
+        (told-after (g (w .farm) ns) (moveLines (w .farm) (getD ns 0 0) lent) s ∙ speaks-none (g (w .farm) ns) s Clock (move-speaks (w .farm) (getD ns 0 0) lent) (x .clock (w .farm) ns) (x .no (w .farm) ns))
+        ∙ x .moves w (getD ns 0 0) (replicate lent blank)
+    calls w kind.Account ns al = one w ns (accountSaid (w .farm) (getD ns 0 0)) Account (account-speaks (w .farm) (getD ns 0 0)) (x .account (w .farm) ns)
+    calls w kind.Withdraw ns al = ap (λ (l : List A). noted w ++ l) (append-nil _) ∙ x .withdrawals w ns
+    calls w kind.Unreadable ns al = none w (told (g (w .farm) ns) (answer (refused 11)) ++ []) (append-nil (told (g (w .farm) ns) (answer (refused 11))) ∙ x .no (w .farm) ns [])
+
+offer-accepted : (f : Farm) (ns : List ℕ) → acceptedOn f ns (answer (offerSaid f (offerIn (length ns) ns))) ≡ jobsBy f (offer (offerIn (length ns) ns))
+unfolding offerSaid
 offer-accepted f ns = go (eqb (offerAsked f o) 0) (accepts f o) refl refl
   where
     o : Offer
     o = offerIn (length ns) ns
 
-    go : (a b : Bool) → eqb (offerAsked f o) 0 ≡ a → accepts f o ≡ b → acceptedOn (f .costs .compute) ns (answer (offerSaid f o) ∷ []) ≡ jobsBy f (offer o)
+    go : (a b : Bool) → eqb (offerAsked f o) 0 ≡ a → accepts f o ≡ b → acceptedOn f ns (answer (offerSaid f o)) ≡ jobsBy f (offer o)
     go true true p q = rw (p, q)
     go true false p q = rw (p, q)
     go false b p q = rw (p, p)
 
-move-accepts-none : (f : Farm) (p : ℕ) (ns : List ℕ) (t n : ℕ) → acceptedAs p ns (moveSaid f t n .word) (moveSaid f t n .values) ≡ []
-unfolding moveSaid
-move-accepts-none f p ns t n = go (eqb (moveAsked f t n) 0)
+withdraw-gone : (f : Farm) (n : ℕ) → told goneAs (answer (withdrawSaid f n)) ≡ goneBy f (withdraw n)
+unfolding withdrawSaid
+withdraw-gone f n = go (passesOf f) (hasNumber n (waitingOf f)) refl refl
   where
-    go : (a : Bool)
-        → acceptedAs p ns (cond {A = Said} a (granted Clock (t ∷ length (issued f t) ∷ [])) (refused (moveAsked f t n)) .word) (cond {A = Said} a (granted Clock (t ∷ length (issued f t) ∷ [])) (refused (moveAsked f t n)) .values)
-        ≡ []
-    go true = refl
-    go false = refl
+    go : (a b : Bool) → passesOf f ≡ a → hasNumber n (waitingOf f) ≡ b → told goneAs (answer (withdrawSaid f n)) ≡ goneBy f (withdraw n)
+    go true true p q = rw (p, q)
+    go true false p q = rw (p, q)
+    go false b p q = rw p
 
-account-accepts-none : (f : Farm) (p : ℕ) (ns : List ℕ) (s : ℕ) → acceptedOn p ns (answer (accountSaid f s) ∷ []) ≡ []
-unfolding acceptedOn accountSaid
-account-accepts-none f p ns s = go (passesOf f) (between 1 s (f .shows)) (s ∷ heldBy f s ∷ (heldBy f s - allowanceOf f s) ∷ [])
-  where
-    go : (a b : Bool) (vs : List ℕ) → acceptedOn p ns (answer (cond {A = Said} a (cond b (granted Account vs) (refused 4)) (refused 11)) ∷ []) ≡ []
-    go true true vs = refl
-    go true false vs = refl
-    go false b vs = refl
+-- The jobs that are told `yes` are those that the calls accept.
+pub accepted-reading : Reading acceptedOn (λ (w : History). w .jobs)
+accepted-reading = tells-reading (λ f ns. acceptedAs (f .costs .compute) ns) (λ (w : History). w .jobs) (record {
+  opened = λ f ns vs. refl;
+  clock = λ f ns vs. refl;
+  account = λ f ns vs. refl;
+  no = λ f ns vs. refl;
+  starts = λ f. refl;
+  offers = λ w ns. ap (λ (l : List Accepted). w .jobs ++ l) (offer-accepted (w .farm) ns);
+  withdrawals = λ w ns. ap (λ (l : List Accepted). w .jobs ++ l)
+      (speaks-none (acceptedAs (w .farm .costs .compute) ns) (withdrawSaid (w .farm) (getD ns 0 0)) Gone (withdraw-speaks (w .farm) (getD ns 0 0)) (λ vs. refl) (λ vs. refl));
+  moves = λ w t m. sym (append-nil (w .jobs));
+})
 
-kind-accepted : (w : History) (k : Kind) (ns : List ℕ) → w .farm .opened ≡ true → w .jobs ++ acceptedOn (w .farm .costs .compute) ns (recordedPrints (w .farm) k ns) ≡ run w (callOf k ns) .jobs
-unfolding recordedPrints calledPrints acceptedOn run
-kind-accepted w kind.Farm ns o =
-    ap (λ (b : Bool). w .jobs ++ acceptedOn (w .farm .costs .compute) ns (cond (not b) (calledPrints (w .farm) kind.Farm ns (drop 5 ns)) unreadPrints)) o ∙ append-nil (w .jobs)
-kind-accepted w kind.Job ns o =
-    ap (λ (b : Bool). w .jobs ++ acceptedOn (w .farm .costs .compute) ns (cond b (calledPrints (w .farm) kind.Job ns (drop 5 ns)) unreadPrints)) o
-    ∙ ap (λ (l : List Accepted). w .jobs ++ l) (offer-accepted (w .farm) ns)
-kind-accepted w kind.Clock ns o =
-    let t = getD ns 0 0 in
-    ap (λ (b : Bool). w .jobs ++ acceptedOn (w .farm .costs .compute) ns (cond b (calledPrints (w .farm) kind.Clock ns (drop 5 ns)) unreadPrints)) o
-    ∙ ap (λ (l : List Accepted). w .jobs ++ l)
-    (accepted-after (w .farm .costs .compute) ns (moveLines (w .farm) t lent) (moveSaid (w .farm) t lent) ∙ move-accepts-none (w .farm) (w .farm .costs .compute) ns t lent)
-kind-accepted w kind.Account ns o =
-    ap (λ (b : Bool). w .jobs ++ acceptedOn (w .farm .costs .compute) ns (cond b (calledPrints (w .farm) kind.Account ns (drop 5 ns)) unreadPrints)) o
-    ∙ ap (λ (l : List Accepted). w .jobs ++ l) (account-accepts-none (w .farm) (w .farm .costs .compute) ns (getD ns 0 0))
-    ∙ append-nil (w .jobs)
-kind-accepted w kind.Unreadable ns o = append-nil (w .jobs)
-
-line-accepted : (w : History) (l : List ℕ) → w .farm .opened ≡ true → w .jobs ++ acceptedBy (w .farm) l ≡ run w (lineCall l) .jobs
-unfolding linePrints lineCall run acceptedOn
-line-accepted w l o = go (leb (length l) longest) (readable l)
-  where
-    go : (a b : Bool) → w .jobs ++ acceptedOn (w .farm .costs .compute) (numbersOf l) (cond a (cond b (recordedPrints (w .farm) (lineKind l) (numbersOf l)) unreadPrints) unreadPrints)
-        ≡ run w (cond {A = List Call} a (cond b (callOf (lineKind l) (numbersOf l)) []) []) .jobs
-    go true true = kind-accepted w (lineKind l) (numbersOf l) o
-    go true false = append-nil (w .jobs)
-    go false b = append-nil (w .jobs)
-
-accepted-from : (w : History) (ls : List (List ℕ)) → w .farm .opened ≡ true → w .jobs ++ acceptedIn (w .farm) ls ≡ run w (callsIn ls) .jobs
-unfolding acceptedIn callsIn run
-accepted-from w [] o = append-nil (w .jobs)
-accepted-from w (l ∷ ls) o =
-    sym (append-assoc (w .jobs) (acceptedBy (w .farm) l) (acceptedIn (answered (w .farm) l .farm) ls))
-    ∙ ap (λ (xs : List Accepted). xs ++ acceptedIn (answered (w .farm) l .farm) ls) (line-accepted w l o)
-    ∙ ap (λ (g : Farm). run w (lineCall l) .jobs ++ acceptedIn g ls) (line-farm w l o)
-    ∙ accepted-from (run w (lineCall l)) ls (run-keeps w (lineCall l) .opened ∙ o)
-    ∙ ap (λ (u : History). u .jobs) (sym (run-append w (lineCall l) (callsIn ls)))
-
--- The jobs that lines are told `yes` to are the jobs that their calls have accepted, in order.
-pub jobs-accepted : (f : Farm) (ls : List (List ℕ)) → f .opened ≡ true → acceptedIn f ls ≡ run (opening f) (callsIn ls) .jobs
-jobs-accepted f ls o = accepted-from (opening f) ls o
+-- The jobs that are told `gone` are those that the calls withdraw.
+pub gone-reading : Reading (λ f ns. told goneAs) (λ (w : History). w .gone)
+gone-reading = tells-reading (λ f ns. goneAs) (λ (w : History). w .gone) (record {
+  opened = λ f ns vs. refl;
+  clock = λ f ns vs. refl;
+  account = λ f ns vs. refl;
+  no = λ f ns vs. refl;
+  starts = λ f. refl;
+  offers = λ w ns. ap (λ (l : List ℕ). w .gone ++ l) (speaks-none goneAs (offerSaid (w .farm) (offerIn (length ns) ns)) Yes (offer-speaks (w .farm) (offerIn (length ns) ns)) (λ vs. refl) (λ vs. refl));
+  withdrawals = λ w ns. ap (λ (l : List ℕ). w .gone ++ l) (withdraw-gone (w .farm) (getD ns 0 0));
+  moves = λ w t m. sym (append-nil (w .gone));
+})

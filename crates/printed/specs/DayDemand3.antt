@@ -1,6 +1,6 @@
 -- Demand 3 of what a day prints. A day's lines are those that leave the farm unopened, then the first granted `farm` line, then any others. Demand 3 holds of
--- the calls that those others are; the jobs told `yes` are the jobs that these calls accept, the `chunk` lines printed the chunks that they issue;
--- and each `account` line says as held ticks the sum over the `chunk` lines of its show printed before it, and as charged ticks what is above
+-- the calls that those others are; the jobs told `yes` are the jobs that these calls accept, those told `gone` the jobs that they withdraw, the `chunk` lines
+-- printed the chunks that they issue; and each `account` line says as held ticks the sum over the `chunk` lines of its show printed before it, and as charged ticks what is above
 -- the allowance on the `farm` line. The definitions come first; `day-demand3` and `printed-day` at the end are the theorems.
 use mathlib.Core.Path.{_≡_, refl, ap, sym, subst, _∙_}
 use mathlib.Core.List.{List, [], _∷_, _++_, map, append-assoc, List·Memᴰ}
@@ -27,9 +27,9 @@ use Rattle.demands.specs.CallLists.{Call, Accepted, History, opening, run, held
 use Rattle.demands.specs.BegunJobs.{chunkOf}
 use Rattle.demands.specs.Demand1.{open-keeps}
 use Rattle.demands.specs.Kept.{run-keeps}
-use Rattle.demands.specs.Demand3.{Issued, Booked, Demand3, demand3}
+use Rattle.demands.specs.Demand3.{Issued, Booked, Withdrawn, Demand3, demand3}
 use Rattle.printed.specs.Model.{linesIn, answers, dayText}
-use Rattle.printed.specs.DayCalls.{callsIn, farmAfter, Print, answer, printTexts, chunksIn, calledPrints, unreadPrints, recordedPrints, linePrints, prints, acceptedOn, acceptedBy, acceptedIn, farm-after, answers-text, chunks-append, chunks-issued, jobs-accepted}
+use Rattle.printed.specs.DayCalls.{callsIn, farmAfter, Print, answer, printTexts, calledPrints, unreadPrints, recordedPrints, linePrints, prints, collect, chunkIn, chunksIn, told, goneAs, goneIn, acceptedOn, acceptedIn, readIn, Reading, farm-after, answers-text, collect-prints, read-lines, read-unopened, chunks-reading, accepted-reading, gone-reading}
 
 -- ---- Lines
 
@@ -88,6 +88,8 @@ pub record DayDemand3 (before : List (List ℕ)) (l : List ℕ) (after : List (L
   pub chunks : chunksIn (prints unopened (before ++ l ∷ after)) ≡ map chunkOf (run (opening (farmOn l)) (callsIn after) .lines)
   -- The jobs that are told `yes` are the jobs that the calls accept, in order.
   pub accepted : acceptedIn unopened (before ++ l ∷ after) ≡ run (opening (farmOn l)) (callsIn after) .jobs
+  -- The jobs that are told `gone` are the jobs that the calls withdraw, in order.
+  pub gone : goneIn (prints unopened (before ++ l ∷ after)) ≡ run (opening (farmOn l)) (callsIn after) .gone
   -- Demand 3 holds of the calls.
   pub demand : Demand3 (farmOn l) (callsIn after) (run (opening (farmOn l)) (callsIn after))
   -- Each `account` line prints, after what the lines before it print, what the `chunk` lines among that add up to.
@@ -97,9 +99,9 @@ pub record DayDemand3 (before : List (List ℕ)) (l : List ℕ) (after : List (L
       ++ answer (accountOf (allowancesOn l) (getD (numbersOf a) 0 0) (chunksIn (prints unopened (before ++ l ∷ part))))
       ∷ prints (farmAfter unopened (before ++ l ∷ part)) rest
 
--- of all lines of a day: none opens a farm, no `chunk` line is printed and no job accepted; or one opens it first, and demand 3 holds
+-- of all lines of a day: none opens a farm, no `chunk` line is printed, no job accepted and none withdrawn; or one opens it first, and demand 3 holds
 pub data Day (ls : List (List ℕ)) : Type 0 where
-  never : All Stays ls → chunksIn (prints unopened ls) ≡ [] → acceptedIn unopened ls ≡ [] → Day ls
+  never : All Stays ls → chunksIn (prints unopened ls) ≡ [] → acceptedIn unopened ls ≡ [] → goneIn (prints unopened ls) ≡ [] → Day ls
   opens : (before : List (List ℕ)) (l : List ℕ) (after : List (List ℕ)) → ls ≡ before ++ l ∷ after → All Stays before → Opens l → DayDemand3 before l after → Day ls
 
 -- ---- Held ticks
@@ -147,7 +149,7 @@ pub issued-started : (f : Farm) (cs : List Call) (w : History) → Demand3 f cs 
 issued-started f cs w d =
     let each : All (Started w) (map (λ (x : Accepted). x .number) (w .jobs)) =
     all-image (Started w) (λ (x : Accepted). x .number) (w .jobs)
-    (all-map (λ x h. started-from w (x .number) (⊎-elim (λ (i : Issued x w). i .start) (λ (b : Booked x w). subst FromFirst (sym (b .lines)) tt) h)) (w .jobs) (d .each)) in
+    (all-map (λ x h. started-from w (x .number) (⊎-elim (λ (i : Issued x w). i .start) (⊎-elim (λ (b : Booked x w). subst FromFirst (sym (b .lines)) tt) (λ (g : Withdrawn (x .number) w). subst FromFirst (sym (g .lines)) tt)) h)) (w .jobs) (d .each)) in
     all-of (w .lines) (λ y m.
     at-member (λ (z : Span). z .chunk .job ≡ y .chunk .job → z .from ≡ startOf (y .chunk .job) (map chunkOf (w .lines))) m
     (at-member (Started w) (at-member (λ (z : Span). List·Memᴰ (z .chunk .job) (map (λ (x : Accepted). x .number) (w .jobs))) m (d .only)) each) refl)
@@ -266,6 +268,7 @@ stays-or-opens l = short (leb (length l) longest) (readable l) refl refl
     kinds kind.Job h = inl (other-stays l kind.Job h refl)
     kinds kind.Clock h = inl (other-stays l kind.Clock h refl)
     kinds kind.Account h = inl (other-stays l kind.Account h refl)
+    kinds kind.Withdraw h = inl (other-stays l kind.Withdraw h refl)
     kinds kind.Unreadable h = inl (other-stays l kind.Unreadable h refl)
 
     short : (a b : Bool) → leb (length l) longest ≡ a → readable l ≡ b → Stays l ⊎ Opens l
@@ -299,12 +302,13 @@ prints-behind f xs l ys a zs =
     let e : (xs ++ l ∷ ys) ++ (a ∷ zs) ≡ xs ++ l ∷ (ys ++ a ∷ zs) = append-assoc xs (l ∷ ys) (a ∷ zs) in
     ap (prints f) (sym e) ∙ prints-at f (xs ++ l ∷ ys) a zs
 
-accepted-append : (f : Farm) (xs ys : List (List ℕ)) → acceptedIn f (xs ++ ys) ≡ acceptedIn f xs ++ acceptedIn (farmAfter f xs) ys
-unfolding acceptedIn farmAfter
-accepted-append f [] ys = refl
-accepted-append f (l ∷ xs) ys =
-    ap (λ (js : List Accepted). acceptedBy f l ++ js) (accepted-append (answered f l .farm) xs ys)
-    ∙ sym (append-assoc (acceptedBy f l) (acceptedIn (answered f l .farm) xs) (acceptedIn (farmAfter (answered f l .farm) xs) ys))
+read-append : {A : Type 0} (r : Farm → List ℕ → Print → List A) (f : Farm) (xs ys : List (List ℕ)) → readIn r f (xs ++ ys) ≡ readIn r f xs ++ readIn r (farmAfter f xs) ys
+unfolding readIn farmAfter
+read-append r f [] ys = refl
+read-append {A} r f (l ∷ xs) ys =
+    let first = collect (r f (numbersOf l)) (linePrints f l) in
+    let g = answered f l .farm in
+    ap (λ (k : List A). first ++ k) (read-append r g xs ys) ∙ sym (append-assoc first (readIn r g xs) (readIn r (farmAfter g xs) ys))
 
 -- ---- Before the opening
 
@@ -313,66 +317,18 @@ unfolding farmAfter
 stays-farm [] h = refl
 stays-farm (l ∷ ls) h = ap (λ (g : Farm). farmAfter g ls) (h .0) ∙ stays-farm ls (h .1)
 
-unopened-kind : (k : Kind) (ns : List ℕ) → chunksIn (recordedPrints unopened k ns) ≡ []
-unfolding recordedPrints calledPrints chunksIn
-unopened-kind kind.Farm ns = refl
-unopened-kind kind.Job ns = refl
-unopened-kind kind.Clock ns = refl
-unopened-kind kind.Account ns = refl
-unopened-kind kind.Unreadable ns = refl
+-- Nothing is read of lines that leave the farm unopened, ..
+stays-read : {A : Type 0} (r : Farm → List ℕ → Print → List A) (noted : History → List A) → Reading r noted → (ls : List (List ℕ)) → All Stays ls → readIn r unopened ls ≡ []
+unfolding readIn
+stays-read r noted x [] h = refl
+stays-read {A} r noted x (l ∷ ls) h =
+    ap (λ (k : List A). k ++ readIn r (answered unopened l .farm) ls) (read-unopened r noted x l) ∙ ap (λ (g : Farm). readIn r g ls) (h .0) ∙ stays-read r noted x ls (h .1)
 
-unopened-chunks : (l : List ℕ) → chunksIn (linePrints unopened l) ≡ []
-unfolding linePrints chunksIn
-unopened-chunks l = go (leb (length l) longest) (readable l)
-  where
-    go : (a b : Bool) → chunksIn (cond a (cond b (recordedPrints unopened (lineKind l) (numbersOf l)) unreadPrints) unreadPrints) ≡ []
-    go true true = unopened-kind (lineKind l) (numbersOf l)
-    go true false = refl
-    go false b = refl
+stays-collect : {A : Type 0} (g : Print → List A) (noted : History → List A) → Reading (λ f ns. g) noted → (ls : List (List ℕ)) → All Stays ls → collect g (prints unopened ls) ≡ []
+stays-collect g noted x ls h = collect-prints g unopened ls ∙ stays-read (λ f ns. g) noted x ls h
 
-stays-chunks : (ls : List (List ℕ)) → All Stays ls → chunksIn (prints unopened ls) ≡ []
-unfolding prints chunksIn
-stays-chunks [] h = refl
-stays-chunks (l ∷ ls) h =
-    chunks-append (linePrints unopened l) (prints (answered unopened l .farm) ls)
-    ∙ ap (λ (xs : List Chunk). xs ++ chunksIn (prints (answered unopened l .farm) ls)) (unopened-chunks l)
-    ∙ ap (λ (g : Farm). chunksIn (prints g ls)) (h .0)
-    ∙ stays-chunks ls (h .1)
-
-open-accepts-none : (n : ℕ) (c : Costs) (al : List ℕ) (p : ℕ) (ns : List ℕ) → acceptedOn p ns (answer (openSaid n c al) ∷ []) ≡ []
-unfolding acceptedOn openSaid
-open-accepts-none n c al p ns = go (between 1 n 64) (costsWithin c) (showsWithin al)
-  where
-    go : (a b d : Bool) → acceptedOn p ns (answer (cond {A = Said} a (cond b (cond d (granted Open (n ∷ length al ∷ [])) (refused 3)) (refused 2)) (refused 1)) ∷ []) ≡ []
-    go true true true = refl
-    go true true false = refl
-    go true false d = refl
-    go false b d = refl
-
-unopened-kind-accepts : (k : Kind) (p : ℕ) (ns : List ℕ) → acceptedOn p ns (recordedPrints unopened k ns) ≡ []
-unfolding recordedPrints calledPrints acceptedOn
-unopened-kind-accepts kind.Farm p ns = open-accepts-none (getD ns 0 0) (costsIn ns) (drop 5 ns) p ns
-unopened-kind-accepts kind.Job p ns = refl
-unopened-kind-accepts kind.Clock p ns = refl
-unopened-kind-accepts kind.Account p ns = refl
-unopened-kind-accepts kind.Unreadable p ns = refl
-
-unopened-accepts : (l : List ℕ) → acceptedBy unopened l ≡ []
-unfolding linePrints acceptedOn
-unopened-accepts l = go (leb (length l) longest) (readable l)
-  where
-    go : (a b : Bool) → acceptedOn (unopened .costs .compute) (numbersOf l) (cond a (cond b (recordedPrints unopened (lineKind l) (numbersOf l)) unreadPrints) unreadPrints) ≡ []
-    go true true = unopened-kind-accepts (lineKind l) (unopened .costs .compute) (numbersOf l)
-    go true false = refl
-    go false b = refl
-
-stays-accepts : (ls : List (List ℕ)) → All Stays ls → acceptedIn unopened ls ≡ []
-unfolding acceptedIn
-stays-accepts [] h = refl
-stays-accepts (l ∷ ls) h =
-    ap (λ (js : List Accepted). js ++ acceptedIn (answered unopened l .farm) ls) (unopened-accepts l)
-    ∙ ap (λ (g : Farm). acceptedIn g ls) (h .0)
-    ∙ stays-accepts ls (h .1)
+never-opens : (ls : List (List ℕ)) → All Stays ls → Day ls
+never-opens ls h = never h (stays-collect chunkIn _ chunks-reading ls h) (stays-read acceptedOn _ accepted-reading ls h) (stays-collect (told goneAs) _ gone-reading ls h)
 
 module _ (before : List (List ℕ)) (l : List ℕ) (h : All Stays before) (o : Opens l) where
   lines-farm : (after : List (List ℕ)) → farmAfter unopened (before ++ l ∷ after) ≡ run (opening (farmOn l)) (callsIn after) .farm
@@ -386,27 +342,24 @@ module _ (before : List (List ℕ)) (l : List ℕ) (h : All Stays before) (o : O
   lines-costs : (part : List (List ℕ)) → farmAfter unopened (before ++ l ∷ part) .costs ≡ costsIn (numbersOf l)
   lines-costs part = ap (λ (g : Farm). g .costs) (lines-farm part) ∙ run-keeps (opening (farmOn l)) (callsIn part) .costs ∙ opens-costs l o
 
-  lines-chunks : (after : List (List ℕ)) → chunksIn (prints unopened (before ++ l ∷ after)) ≡ map chunkOf (run (opening (farmOn l)) (callsIn after) .lines)
-  unfolding prints
-  lines-chunks after =
-      ap chunksIn (prints-append unopened before (l ∷ after))
-      ∙ chunks-append (prints unopened before) (prints (farmAfter unopened before) (l ∷ after))
-      ∙ ap (λ (xs : List Chunk). xs ++ chunksIn (prints (farmAfter unopened before) (l ∷ after))) (stays-chunks before h)
-      ∙ ap (λ (g : Farm). chunksIn (prints g (l ∷ after))) (stays-farm before h)
-      ∙ chunks-append (linePrints unopened l) (prints (answered unopened l .farm) after)
-      ∙ ap (λ (xs : List Chunk). xs ++ chunksIn (prints (answered unopened l .farm) after)) (unopened-chunks l)
-      ∙ ap (λ (g : Farm). chunksIn (prints g after)) (opens-farm l o)
-      ∙ chunks-issued (farmOn l) after (opens-opened l o)
+  -- .. and of those from the opening on what is noted of the calls that the others are.
+  lines-read : {A : Type 0} (r : Farm → List ℕ → Print → List A) (noted : History → List A) → Reading r noted → (after : List (List ℕ))
+      → readIn r unopened (before ++ l ∷ after) ≡ noted (run (opening (farmOn l)) (callsIn after))
+  unfolding readIn
+  lines-read {A} r noted x after =
+      read-append r unopened before (l ∷ after)
+      ∙ ap (λ (k : List A). k ++ readIn r (farmAfter unopened before) (l ∷ after)) (stays-read r noted x before h)
+      ∙ ap (λ (g : Farm). readIn r g (l ∷ after)) (stays-farm before h)
+      ∙ ap (λ (k : List A). k ++ readIn r (answered unopened l .farm) after) (read-unopened r noted x l)
+      ∙ ap (λ (g : Farm). readIn r g after) (opens-farm l o)
+      ∙ read-lines r noted x (farmOn l) after (opens-opened l o)
 
-  lines-accepted : (after : List (List ℕ)) → acceptedIn unopened (before ++ l ∷ after) ≡ run (opening (farmOn l)) (callsIn after) .jobs
-  unfolding acceptedIn
-  lines-accepted after =
-      accepted-append unopened before (l ∷ after)
-      ∙ ap (λ (js : List Accepted). js ++ acceptedIn (farmAfter unopened before) (l ∷ after)) (stays-accepts before h)
-      ∙ ap (λ (g : Farm). acceptedIn g (l ∷ after)) (stays-farm before h)
-      ∙ ap (λ (js : List Accepted). js ++ acceptedIn (answered unopened l .farm) after) (unopened-accepts l)
-      ∙ ap (λ (g : Farm). acceptedIn g after) (opens-farm l o)
-      ∙ jobs-accepted (farmOn l) after (opens-opened l o)
+  lines-collect : {A : Type 0} (g : Print → List A) (noted : History → List A) → Reading (λ f ns. g) noted → (after : List (List ℕ))
+      → collect g (prints unopened (before ++ l ∷ after)) ≡ noted (run (opening (farmOn l)) (callsIn after))
+  lines-collect g noted x after = collect-prints g unopened (before ++ l ∷ after) ∙ lines-read (λ f ns. g) noted x after
+
+  lines-chunks : (after : List (List ℕ)) → chunksIn (prints unopened (before ++ l ∷ after)) ≡ map chunkOf (run (opening (farmOn l)) (callsIn after) .lines)
+  lines-chunks after = lines-collect chunkIn (λ (w : History). map chunkOf (w .lines)) chunks-reading after
 
   lines-demand : (after : List (List ℕ)) → Demand3 (farmOn l) (callsIn after) (run (opening (farmOn l)) (callsIn after))
   lines-demand after = demand3 (getD (numbersOf l) 0 0) (costsIn (numbersOf l)) (allowancesOn l) (o .granted) (callsIn after)
@@ -485,18 +438,19 @@ day-demand3 before l after h o = record {
   farm = lines-farm before l h o after;
   costs = λ part rest e. lines-costs before l h o part;
   chunks = lines-chunks before l h o after;
-  accepted = lines-accepted before l h o after;
+  accepted = lines-read before l h o acceptedOn (λ (w : History). w .jobs) accepted-reading after;
+  gone = lines-collect before l h o (told goneAs) (λ (w : History). w .gone) gone-reading after;
   demand = lines-demand before l h o after;
   accounts = λ part a rest e r. ap (λ (xs : List (List ℕ)). prints unopened (before ++ l ∷ xs)) e ∙ lines-accounts before l h o part a rest r;
 }
 
 further : (l : List ℕ) (ls : List (List ℕ)) → Stays l → Day ls → Day (l ∷ ls)
-further l ls s (never h k j) = never (s, h) (stays-chunks (l ∷ ls) (s, h)) (stays-accepts (l ∷ ls) (s, h))
+further l ls s (never h k j g) = never-opens (l ∷ ls) (s, h)
 further l ls s (opens before x after e h o d) = opens (l ∷ before) x after (ap (λ (xs : List (List ℕ)). l ∷ xs) e) (s, h) o (day-demand3 (l ∷ before) x after (s, h) o)
 
 -- All lists of lines are such lines, or none of them opens a farm.
 pub lines-day : (ls : List (List ℕ)) → Day ls
-lines-day [] = never tt (stays-chunks [] tt) (stays-accepts [] tt)
+lines-day [] = never-opens [] tt
 lines-day (l ∷ ls) = ⊎-elim (λ s. further l ls s (lines-day ls)) (λ o. opens [] l ls refl tt o (day-demand3 [] l ls tt o)) (stays-or-opens l)
 
 -- **Demand 3 of every input**: what the program prints for it is the texts of its printed lines, of which `Day` holds.
