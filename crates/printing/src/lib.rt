@@ -14,6 +14,7 @@ pub enum Word {
     Chunk,
     Clock,
     Account,
+    Gone,
     No,
 }
 
@@ -72,6 +73,7 @@ fn spelling_of(word: Word) -> Spelling
         Word::Chunk => Spelling(5, *b"chunk\0\0"),
         Word::Clock => Spelling(5, *b"clock\0\0"),
         Word::Account => Spelling(7, *b"account"),
+        Word::Gone => Spelling(4, *b"gone\0\0\0"),
         Word::No => Spelling(2, *b"no\0\0\0\0\0"),
     }
 }

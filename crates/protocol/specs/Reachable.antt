@@ -11,16 +11,16 @@ use Rattle.planner.specs.declared.Farm.{Farm}
 use Rattle.planner.specs.declared.Offer.{Offer}
 use Rattle.planner.specs.Model.{Sized, between, costsWithin}
 use Rattle.planner.specs.Passes.{passesOf}
-use Rattle.planner.specs.Calls.{unopened, showsWithin, openSaid, openFarm, offerFarm}
+use Rattle.planner.specs.Calls.{unopened, showsWithin, openSaid, openFarm, offerFarm, withdrawFarm}
 use Rattle.planner.specs.Clock.{moveFarm}
-use Rattle.demands.specs.CallLists.{Call, offer, move, handed}
+use Rattle.demands.specs.CallLists.{Call, offer, withdraw, move, handed}
 use Rattle.demands.specs.Kept.{handed-keeps}
 use Rattle.demands.specs.Reached.{Reached, reached-opening, reached-call, reached-passes, reached-sized}
 use Rattle.text.specs.Model.{newline}
 use Rattle.reading.specs.declared.Kind.{Kind}
 use Rattle.reading.specs.declared.Kind.the-variants as kind
 use Rattle.reading.specs.Model.{lineKind, readable, numbersOf}
-use Rattle.protocol.specs.Model.{Answered, unread, costsIn, farmLine, offerIn, jobLine, lent, clockLine, accountLine, inTurn, called, recorded, longest, answered, Pending, part, long, ended, kept, Fed, behind, feed}
+use Rattle.protocol.specs.Model.{Answered, unread, costsIn, farmLine, offerIn, jobLine, lent, clockLine, accountLine, withdrawLine, inTurn, called, recorded, longest, answered, Pending, part, long, ended, kept, Fed, behind, feed}
 
 -- not opened, or reached by an opening and calls
 abbrev pub Reachable : Farm → Type 0
@@ -61,12 +61,16 @@ offer-reachable f o r = call-reachable f (offer o) r
 pub move-reachable : (f : Farm) (t n : ℕ) → Reachable f → Reachable (moveFarm f t n)
 move-reachable f t n r = subst (λ (k : ℕ). Reachable (moveFarm f t k)) (length-replicate n noChunk) (call-reachable f (move t (replicate n noChunk)) r)
 
+pub withdraw-reachable : (f : Farm) (n : ℕ) → Reachable f → Reachable (withdrawFarm f n)
+withdraw-reachable f n r = call-reachable f (withdraw n) r
+
 called-reachable : (f : Farm) (k : Kind) (n : ℕ) (ns al : List ℕ) → Reachable f → Reachable (called f k n ns al .farm)
-unfolding called farmLine jobLine clockLine accountLine
+unfolding called farmLine jobLine clockLine accountLine withdrawLine
 called-reachable f kind.Farm n ns al r = opening-reachable (getD ns 0 0) (costsIn ns) al
 called-reachable f kind.Job n ns al r = offer-reachable f (offerIn n ns) r
 called-reachable f kind.Clock n ns al r = move-reachable f (getD ns 0 0) lent r
 called-reachable f kind.Account n ns al r = r
+called-reachable f kind.Withdraw n ns al r = withdraw-reachable f (getD ns 0 0) r
 called-reachable f kind.Unreadable n ns al r = r
 
 choice-reachable : (b : Bool) (x y : Answered) → Reachable (x .farm) → Reachable (y .farm) → Reachable (cond b x y .farm)

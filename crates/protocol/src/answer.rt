@@ -32,6 +32,7 @@ fn number_of(question: Question) -> u64
         Question::Time => 9,
         Question::Lines => 10,
         Question::Farm => 11,
+        Question::Waiting => 12,
     }
 }
 
@@ -73,6 +74,11 @@ fn line_of(answer: Answer) -> Line
             word: Word::Account,
             count: 3,
             numbers: [show, held, charged, 0, 0, 0, 0],
+        },
+        Answer::Gone { job } => Line {
+            word: Word::Gone,
+            count: 1,
+            numbers: [job, 0, 0, 0, 0, 0, 0],
         },
         Answer::No(question) => Line {
             word: Word::No,

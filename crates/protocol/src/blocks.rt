@@ -136,6 +136,16 @@ pub fn answer_block(
                     farm = reply.farm;
                     at = put_answer(out, at, answer);
                 }
+                Kind::Withdraw => {
+                    let decision = farm.withdraw_unchecked(numbers[0]);
+                    let answer = decision.answer;
+                    at = put_answer(out, at, answer);
+                    if decision.granted {
+                        let jobs = decision.jobs;
+                        farm.waiting -= 1;
+                        farm.jobs = jobs;
+                    }
+                }
                 Kind::Unreadable => {
                     at = put_unread(out, at);
                 }

@@ -63,6 +63,7 @@ pub fn in_turn(kind: Kind, opened: bool) -> bool
         Kind::Job => opened,
         Kind::Clock => opened,
         Kind::Account => opened,
+        Kind::Withdraw => opened,
         Kind::Unreadable => false,
     }
 }

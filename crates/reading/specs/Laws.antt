@@ -156,6 +156,7 @@ kind-word kind.Farm = refl
 kind-word kind.Job = refl
 kind-word kind.Clock = refl
 kind-word kind.Account = refl
+kind-word kind.Withdraw = refl
 kind-word kind.Unreadable = refl
 
 -- ---- Examples

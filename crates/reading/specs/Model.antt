@@ -61,17 +61,18 @@ allNumbers (f ∷ fs) = isNumber f && allNumbers fs
 
 -- ---- Kinds
 
--- the word of each kind: farm, job, clock and account; a line that cannot be read has none
+-- the word of each kind: farm, job, clock, account and withdraw; a line that cannot be read has none
 abbrev pub wordOf : Kind → List ℕ
 wordOf kind.Farm = 102 ∷ 97 ∷ 114 ∷ 109 ∷ []
 wordOf kind.Job = 106 ∷ 111 ∷ 98 ∷ []
 wordOf kind.Clock = 99 ∷ 108 ∷ 111 ∷ 99 ∷ 107 ∷ []
 wordOf kind.Account = 97 ∷ 99 ∷ 99 ∷ 111 ∷ 117 ∷ 110 ∷ 116 ∷ []
+wordOf kind.Withdraw = 119 ∷ 105 ∷ 116 ∷ 104 ∷ 100 ∷ 114 ∷ 97 ∷ 119 ∷ []
 wordOf kind.Unreadable = []
 
 -- the kinds that a word names
 abbrev pub kinds : List Kind
-kinds = kind.Farm ∷ kind.Job ∷ kind.Clock ∷ kind.Account ∷ []
+kinds = kind.Farm ∷ kind.Job ∷ kind.Clock ∷ kind.Account ∷ kind.Withdraw ∷ []
 
 -- the one among these kinds whose word it is
 unfoldable pub kindAmong : List Kind → List ℕ → Kind
@@ -82,12 +83,13 @@ unfoldable pub kindOf : List ℕ → Kind
 kindOf w = kindAmong kinds w
 
 -- how many numbers follow: nodes and four costs for a farm, then its allowances; show, size and deadline for a job, then its compute cost if it is
--- given; a time; a show
+-- given; a time; a show; a job
 abbrev pub fits : Kind → ℕ → Bool
 fits kind.Farm n = leb 5 n
 fits kind.Job n = leb 3 n && leb n 4
 fits kind.Clock n = eqb n 1
 fits kind.Account n = eqb n 1
+fits kind.Withdraw n = eqb n 1
 fits kind.Unreadable n = false
 
 -- ---- A line

@@ -16,6 +16,7 @@ pub enum Kind {
     Job,
     Clock,
     Account,
+    Withdraw,
     Unreadable,
 }
 
@@ -93,7 +94,8 @@ fn kind_if(word: &[u8], text: &[u8], kind: Kind, other: Kind) -> Kind
 fn kind_of(word: &[u8]) -> Kind
     ensures { λ r. ⌜ r ≡ kindOf (now (word .entry)) ⌝ }
 {
-    let account = kind_if(word, b"account", Kind::Account, Kind::Unreadable);
+    let withdraw = kind_if(word, b"withdraw", Kind::Withdraw, Kind::Unreadable);
+    let account = kind_if(word, b"account", Kind::Account, withdraw);
     let clock = kind_if(word, b"clock", Kind::Clock, account);
     let job = kind_if(word, b"job", Kind::Job, clock);
     kind_if(word, b"farm", Kind::Farm, job)
@@ -108,6 +110,7 @@ fn fitting(kind: Kind, count: usize) -> bool
         Kind::Job => 3 <= count && count <= 4,
         Kind::Clock => count == 1,
         Kind::Account => count == 1,
+        Kind::Withdraw => count == 1,
         Kind::Unreadable => false,
     }
 }

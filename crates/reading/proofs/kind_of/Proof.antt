@@ -28,6 +28,12 @@ slice-aggregate-kind-if-4 c = search needs
 kind-if-requires-4 : tie.Need-kind-if-requires-4
 kind-if-requires-4 c κs = search needs
 
+slice-aggregate-kind-if-5 : tie.Need-slice-aggregate-kind-if-5
+slice-aggregate-kind-if-5 c = search needs
+
+kind-if-requires-5 : tie.Need-kind-if-requires-5
+kind-if-requires-5 c κs = search needs
+
 returns : tie.Need-returns
 unfolding kindOf kindAmong
 returns c = cc
@@ -44,4 +50,6 @@ kind-of-spec =
     kind-if-requires-3
     slice-aggregate-kind-if-4
     kind-if-requires-4
+    slice-aggregate-kind-if-5
+    kind-if-requires-5
     returns)

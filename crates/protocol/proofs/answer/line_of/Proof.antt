@@ -23,6 +23,9 @@ enum-known-answer-5 c = search needs
 enum-known-answer-6 : tie.Need-enum-known-answer-6
 enum-known-answer-6 c = search needs
 
+enum-known-answer-7 : tie.Need-enum-known-answer-7
+enum-known-answer-7 c = search needs
+
 number-of-requires : tie.Need-number-of-requires
 number-of-requires c κs = search needs
 
@@ -48,7 +51,11 @@ returns-5 c = rw (c .before .answer5 .given .1)
 
 returns-6 : tie.Need-returns-6
 unfolding lineWith
-returns-6 c = rw (c .before .before .answer6 .given .1, no-number (c .before .before .answer6 .given .0 .0), c .number-of .ensures)
+returns-6 c = rw (c .before .answer6 .given .1)
+
+returns-7 : tie.Need-returns-7
+unfolding lineWith
+returns-7 c = rw (c .before .before .answer7 .given .1, no-number (c .before .before .answer7 .given .0 .0), c .number-of .ensures)
 
 pub line-of-spec : {M : Type 1} → statement M
 line-of-spec =
@@ -60,10 +67,12 @@ line-of-spec =
     enum-known-answer-4
     enum-known-answer-5
     enum-known-answer-6
+    enum-known-answer-7
     number-of-requires
     returns
     returns-2
     returns-3
     returns-4
     returns-5
-    returns-6)
+    returns-6
+    returns-7)

@@ -2,19 +2,24 @@
 use borrow.Author.Needs.{needs}
 use mathlib.Core.Path.{_≡_, refl, ap, sym, subst, _∙_}
 use mathlib.Core.Bool.{true}
-use Prim.Native.Nat.{_+_, _-_}
+use mathlib.Core.List.{List}
+use Prim.Native.Nat.{ℕ, _+_, _-_, _≤_, _<_}
 use native.Mathlib.Omega.{arith}
 use borrow.Author.Tests.{not-true, not-false}
 use lib.ListN.{length, getD}
-use Rattle.text.specs.Writing.{within-same}
+use Rattle.text.specs.Writing.{WroteWithin, within-same}
 use Rattle.reading.specs.declared.Kind.{Kind}
+use Rattle.reading.specs.declared.Row.{Row}
+use Rattle.planner.specs.declared.Farm.{Farm}
 use Rattle.planner.specs.declared.Offer.{Offer}
-use Rattle.planner.specs.Calls.{said}
+use Rattle.planner.specs.declared.Move.{Move}
+use Rattle.planner.specs.Model.{Sized}
+use Rattle.planner.specs.Passes.{passesOf}
 use Rattle.planner.specs.OfferSteps.{Decides}
-use Rattle.planner.specs.ClockSteps.{Begins, move-refused, move-taken, none-due-yet}
-use Rattle.protocol.specs.Model.{answerText, inTurn, ended, unread, farmLine, offerIn, jobLine, clockLine, accountLine, called, lent}
+use Rattle.planner.specs.ClockSteps.{Begins, MoveDecides, move-refused, move-taken, none-due-yet}
+use Rattle.protocol.specs.Model.{Answered, answerText, inTurn, farmLine, jobLine, clockLine, accountLine, withdrawLine, called, lent}
 use Rattle.protocol.specs.Rows.{FarmRow, pendingOf, byRow, allowancesIn, rest-row, row-farm, row-turn, row-unread}
-use Rattle.protocol.specs.Reachable.{reachable-passes, reachable-sized}
+use Rattle.protocol.specs.Reachable.{Reachable, reachable-passes, reachable-sized}
 use Rattle.protocol.specs.CallSteps.{clock-plain, rows-asked, rows-fit, clock-text}
 use Rattle.protocol.specs.Blocks.{DayAt, day-start, day-reachable, day-took, day-rest, day-line}
 use Rattle.protocol.proofs.blocks.answer_block.Statement.{statement}
@@ -26,6 +31,138 @@ Inv-loop block from rows₀ out₀ last farm₀ rest₀ next₀ at₀ rows out f
 
 abbrev μ-loop : tie.MeasureT-loop
 μ-loop block from rows₀ out₀ last farm₀ rest₀ next₀ at₀ rows out farm rest next at = length block - next
+
+-- ---- Places in the loop
+
+-- The types that a function goes between. A need goes from the place where it stands, and so names the type of that place and of those before it.
+abbrev From : {A : Type 0} {B : A → Type 0} → ((x : A) → B x) → Type 0
+From {A} {B} f = A
+
+abbrev To : {A B : Type 0} → (A → B) → Type 0
+To {A} {B} f = B
+
+enum-told : tie.Need-enum-told Inv-loop μ-loop
+enum-told c = search needs
+
+array-read-farm : tie.Need-array-read-farm Inv-loop μ-loop
+array-read-farm c = search needs
+
+-- where the call of a line in its turn is chosen
+abbrev Choice : Type 0
+Choice = To (λ (c : From enum-told). c .before)
+
+-- where it is known whether a line is in its turn
+abbrev Turn : Type 0
+Turn = To (λ (n : Choice). n .before .before)
+
+-- where a line begins
+abbrev Line : Type 0
+Line = To (λ (t : Turn). t .before .before .before .before .before .before .before)
+
+-- where the function is entered
+abbrev Entry : Type 0
+Entry = To (λ (l : Line). l .before .before .before .before .before .before)
+
+-- where a clock move is granted
+abbrev Granted : Type 0
+Granted = To (λ (c : From array-read-farm). c .before .before)
+
+abbrev line : Turn → Line
+line t = t .before .before .before .before .before .before .before
+
+abbrev entry : Turn → Entry
+entry t = line t .before .before .before .before .before .before
+
+abbrev end : Turn → ℕ
+end t = t .before .before .before .before .find .result
+
+abbrev row : Turn → Row
+row t = t .before .row-of .result
+
+abbrev first : Turn → ℕ
+first t = getD (row t .numbers) 0 0
+
+abbrev farm : Turn → Farm
+farm t = line t .loop .farm
+
+-- the day where the next line begins
+abbrev Onward : Turn → Farm → ℕ → List ℕ → Type 0
+Onward t later place back =
+    let a = entry t .args in
+    DayAt (a .session .farm) (a .session .rest) (a .block .now) (a .from) (a .out .now) later (record { fill = 0; bytes = line t .loop .rest .bytes }) (end t + 1) place back × (length (a .out .now) - 164000 + 164000 ≡ length (a .out .now))
+
+module _ (t : Turn) where
+  inside : end t < length (entry t .args .block .now)
+  inside = omega (arith, t .before .before .before .before .find .ensures .1, t .before .before .if3 .left)
+
+  -- Less of the block is left.
+  less : length (entry t .args .block .now) - (end t + 1) < length (entry t .args .block .now) - line t .loop .next
+  less = omega (arith, t .before .before .before .before .find .ensures .0, inside)
+
+  -- The largest answer fits.
+  room : line t .loop .at + 164000 ≤ length (line t .loop .out)
+  room = omega (arith, line t .loop .inv .0 .size, line t .loop .inv .1, t .before .before .before .before .before .if2 .left)
+
+  -- The line ends and is answered.
+  answers : {x : Answered} {later : Farm} {most place : ℕ} {back : List ℕ} → byRow (farm t) (row t) ≡ x → later ≡ x .farm
+      → WroteWithin most (x .text) (line t .loop .at) (line t .loop .out) back place → most ≤ 164000 → Onward t later place back
+  answers b d p h =
+      let i = line t .loop .inv in
+      let w = t .before .before .before .with-bytes in
+      let said = rest-row (farm t) (w .result) ∙ ap (byRow (farm t)) (sym (t .before .row-of .ensures)) ∙ b in
+      (day-line (i .0) (w .result) (t .before .before .before .before .find .ensures .0) (w .ensures) inside said d refl p (omega (arith, p .within, room, i .0 .size)), i .1)
+
+module _ (n : Choice) where
+  abbrev turn : Turn
+  turn = n .before .before
+
+  in-its-turn : inTurn (row turn .kind) (farm turn .opened) ≡ true
+  in-its-turn = sym (turn .in-turn .ensures) ∙ not-false _ (n .before .if4 .left)
+
+  module _ {k : Kind} (told : row turn .kind ≡ k) where
+    kind-turn : inTurn k (farm turn .opened) ≡ true
+    kind-turn = subst (λ (x : Kind). inTurn x (farm turn .opened) ≡ true) told in-its-turn
+
+    -- It is answered as the call of its kind.
+    by-kind : byRow (farm turn) (row turn) ≡ called (farm turn) k (row turn .count) (row turn .numbers) (allowancesIn (row turn))
+    by-kind = row-turn (farm turn) (row turn) in-its-turn ∙ ap (λ (x : Kind). called (farm turn) x (row turn .count) (row turn .numbers) (allowancesIn (row turn))) told
+
+  reaches : Reachable (farm turn)
+  reaches = day-reachable (line turn .loop .inv .0) (entry turn .pre)
+
+  -- Once opened, the farm passes question 11.
+  passes : farm turn .opened ≡ true → passesOf (farm turn) ≡ true
+  passes o = reachable-passes (farm turn) reaches o
+
+module _ (g : Granted) where
+  abbrev choice : Choice
+  choice = g .before .before .before .before .before .before
+
+  abbrev old : Farm
+  old = farm (turn choice)
+
+  abbrev time : ℕ
+  time = first (turn choice)
+
+  abbrev step : Move
+  step = g .before .before .before .move-unchecked .result
+
+  decides : MoveDecides old time lent step
+  decides = g .before .before .before .move-unchecked .ensures
+
+  granted : step .granted ≡ true
+  granted = not-false _ (g .if6 .left)
+
+  is-open : old .opened ≡ true
+  is-open = kind-turn choice (g .before .before .before .before .enum-told3 .given .1)
+
+  sized : Sized old
+  sized = reachable-sized old (reaches choice) is-open
+
+  begins : Begins old time (step .due)
+  begins = record { passes = passes choice is-open; due = decides .due }
+
+-- ---- Needs
 
 returns : tie.Need-returns Inv-loop μ-loop
 returns c =
@@ -68,64 +205,33 @@ in-turn-requires : tie.Need-in-turn-requires Inv-loop μ-loop
 in-turn-requires c κs = search needs
 
 put-unread-requires : tie.Need-put-unread-requires Inv-loop μ-loop
-put-unread-requires c κs = let g = c .before .before .before .before .before .before .before .before .before .loop .inv .0 .size in omega arith
+put-unread-requires c κs = omega (arith, room (c .before .before))
 
 loop-less : tie.Need-loop-less Inv-loop μ-loop
-loop-less c = search needs
+loop-less c = less (c .before .before .before .before .before)
 
 loop-again : tie.Need-loop-again Inv-loop μ-loop
 loop-again c =
     let t = c .before .before .before .before .before in
-    let l = t .before .before .before .before .before .before .before .loop in
-    let e = t .before .before .before .before .find in
-    let w = t .before .before .before .with-bytes in
-    let o = t .before .row-of in
-    let p = c .before .before .put-unread in
-    let said : ended (l .farm) (pendingOf (w .result)) ≡ unread (l .farm) =
-    rest-row (l .farm) (w .result) ∙ ap (byRow (l .farm)) (sym (o .ensures)) ∙ row-unread (l .farm) (o .result) (sym (t .in-turn .ensures) ∙ not-true _ (c .before .before .before .before .if4 .taken)) in (
-      day-line (l .inv .0) (w .result) (e .ensures .0) (w .ensures) (omega (arith, e .ensures .1, t .before .before .if3 .left)) said refl refl (p .ensures) (omega (arith, p .ensures .within, l .inv .1, t .before .before .before .before .before .if2 .left)),
-      l .inv .1,
-    )
-
-enum-told : tie.Need-enum-told Inv-loop μ-loop
-enum-told c = search needs
+    answers t (row-unread (farm t) (row t) (sym (t .in-turn .ensures) ∙ not-true _ (c .before .before .before .before .if4 .taken))) refl (c .before .before .put-unread .ensures) (omega arith)
 
 array-read-account-unchecked : tie.Need-array-read-account-unchecked Inv-loop μ-loop
 array-read-account-unchecked c = search needs
 
 account-unchecked-requires : tie.Need-account-unchecked-requires Inv-loop μ-loop
-account-unchecked-requires c κs =
-    let t = c .before .before .before .before .before in
-    let l = c .before .before .before .before .before .before .before .before .before .before .before .before .loop in
-    let s = c .before .before .before .before .before .before .before .before .before .before .before .before .before .before .before .before .before .before in
-    reachable-passes (l .farm) (day-reachable (l .inv .0) (s .pre)) (subst (λ (k : Kind). inTurn k (l .farm .opened) ≡ true) (c .before .enum-told .given .1) (sym (t .in-turn .ensures) ∙ not-false _ (c .before .before .before .before .if4 .left)))
+account-unchecked-requires c κs = let n = c .before .before .before in passes n (kind-turn n (c .before .enum-told .given .1))
 
 put-answer-requires : tie.Need-put-answer-requires Inv-loop μ-loop
-put-answer-requires c κs =
-    let l = c .before .before .before .before .before .before .before .before .before .before .before .before .before .loop in
-    omega (arith, l .inv .0 .size, l .inv .1, c .before .before .before .before .before .before .before .before .before .before .before .if2 .left)
+put-answer-requires c κs = omega (arith, room (turn (c .before .before .before .before)))
 
 loop-less-2 : tie.Need-loop-less-2 Inv-loop μ-loop
-loop-less-2 c =
-    let t = c .before .before .before .before .before .before .before .before .before in
-    let e = t .before .before .before .before .find in
-    omega (arith, e .ensures .0, e .ensures .1, t .before .before .if3 .left)
+loop-less-2 c = less (turn (c .before .before .before .before .before .before .before))
 
 loop-again-2 : tie.Need-loop-again-2 Inv-loop μ-loop
 unfolding called accountLine
 loop-again-2 c =
-    let t = c .before .before .before .before .before .before .before .before .before in
-    let l = c .before .before .before .before .before .before .before .before .before .before .before .before .before .before .before .before .loop in
-    let s = c .before .before .before .before .before .before .before .before .before .before .before .before .before .before .before .before .before .before .before .before .before .before in
-    let e = t .before .before .before .before .find in
-    let w = t .before .before .before .with-bytes in
-    let o = t .before .row-of in
-    let said : ended (l .farm) (pendingOf (w .result)) ≡ accountLine (l .farm) (getD (o .result .numbers) 0 0) =
-    rest-row (l .farm) (w .result) ∙ ap (byRow (l .farm)) (sym (o .ensures)) ∙ row-turn (l .farm) (o .result) (sym (t .in-turn .ensures) ∙ not-false _ (c .before .before .before .before .before .before .before .before .if4 .left)) ∙ rw (c .before .before .before .before .before .enum-told .given .1) in (
-      day-line (l .inv .0) (w .result) (e .ensures .0) (w .ensures) (omega (arith, e .ensures .1, t .before .before .if3 .left)) said (refl) refl
-          (within-same (ap answerText (c .before .before .before .account-unchecked .ensures)) (c .before .before .put-answer .ensures)) (omega (arith, c .before .before .put-answer .ensures .within, l .inv .1, t .before .before .before .before .before .if2 .left)),
-      l .inv .1,
-    )
+    let n = c .before .before .before .before .before .before .before in
+    answers (turn n) (by-kind n (c .before .before .before .before .before .enum-told .given .1)) refl (within-same (ap answerText (c .before .before .before .account-unchecked .ensures)) (c .before .before .put-answer .ensures)) (omega arith)
 
 enum-told-2 : tie.Need-enum-told-2 Inv-loop μ-loop
 enum-told-2 c = search needs
@@ -134,16 +240,10 @@ offered-requires : tie.Need-offered-requires Inv-loop μ-loop
 offered-requires c κs = search needs
 
 offer-unchecked-requires : tie.Need-offer-unchecked-requires Inv-loop μ-loop
-offer-unchecked-requires c κs =
-    let t = c .before .before .before .before .before in
-    let l = c .before .before .before .before .before .before .before .before .before .before .before .before .loop in
-    let s = c .before .before .before .before .before .before .before .before .before .before .before .before .before .before .before .before .before .before in
-    reachable-passes (l .farm) (day-reachable (l .inv .0) (s .pre)) (subst (λ (k : Kind). inTurn k (l .farm .opened) ≡ true) (c .before .enum-told2 .given .1) (sym (t .in-turn .ensures) ∙ not-false _ (c .before .before .before .before .if4 .left)))
+offer-unchecked-requires c κs = let n = c .before .before .before in passes n (kind-turn n (c .before .enum-told2 .given .1))
 
 put-answer-requires-2 : tie.Need-put-answer-requires-2 Inv-loop μ-loop
-put-answer-requires-2 c κs =
-    let l = c .before .before .before .before .before .before .before .before .before .before .before .before .before .before .loop in
-    omega (arith, l .inv .0 .size, l .inv .1, c .before .before .before .before .before .before .before .before .before .before .before .before .if2 .left)
+put-answer-requires-2 c κs = omega (arith, room (turn (c .before .before .before .before .before)))
 
 add-farm : tie.Need-add-farm Inv-loop μ-loop
 add-farm c = omega (arith, c .before .before .before .before .before .before .before .offer-unchecked .ensures .accepts (c .before .before .if5 .taken) .2)
@@ -152,50 +252,26 @@ add-farm-2 : tie.Need-add-farm-2 Inv-loop μ-loop
 add-farm-2 c = omega (arith, c .before .before .before .before .before .before .before .before .offer-unchecked .ensures .accepts (c .before .before .before .if5 .taken) .1)
 
 loop-less-3 : tie.Need-loop-less-3 Inv-loop μ-loop
-loop-less-3 c =
-    let t = c .before .before .before .before .before .before .before .before .before .before .before .before .before .before in
-    let e = t .before .before .before .before .find in
-    omega (arith, e .ensures .0, e .ensures .1, t .before .before .if3 .left)
+loop-less-3 c = less (turn (c .before .before .before .before .before .before .before .before .before .before .before .before))
 
 loop-again-3 : tie.Need-loop-again-3 Inv-loop μ-loop
 unfolding called jobLine
 loop-again-3 c =
-    let t = c .before .before .before .before .before .before .before .before .before .before .before .before .before .before in
-    let l = c .before .before .before .before .before .before .before .before .before .before .before .before .before .before .before .before .before .before .before .before .before .loop in
-    let e = t .before .before .before .before .find in
-    let w = t .before .before .before .with-bytes in
-    let o = t .before .row-of in
+    let n = c .before .before .before .before .before .before .before .before .before .before .before .before in
     let r = c .before .before .before .before .before .before .before .before .offer-unchecked in
-    let d = subst (λ (x : Offer). Decides (l .farm) x (r .result)) (c .before .before .before .before .before .before .before .before .before .offered .ensures) (r .ensures) in
-    let said : ended (l .farm) (pendingOf (w .result)) ≡ jobLine (l .farm) (offerIn (o .result .count) (o .result .numbers)) =
-    rest-row (l .farm) (w .result) ∙ ap (byRow (l .farm)) (sym (o .ensures)) ∙ row-turn (l .farm) (o .result) (sym (t .in-turn .ensures) ∙ not-false _ (c .before .before .before .before .before .before .before .before .before .before .before .before .before .if4 .left)) ∙ rw (c .before .before .before .before .before .before .before .before .before .before .enum-told2 .given .1) in (
-      day-line (l .inv .0) (w .result) (e .ensures .0) (w .ensures) (omega (arith, e .ensures .1, t .before .before .if3 .left)) said (sym (d .accepts (c .before .before .before .if5 .taken) .0)) refl
-          (within-same (ap answerText (d .says)) (c .before .before .before .before .before .before .put-answer2 .ensures)) (omega (arith, c .before .before .before .before .before .before .put-answer2 .ensures .within, l .inv .1, t .before .before .before .before .before .if2 .left)),
-      l .inv .1,
-    )
+    let d = subst (λ (x : Offer). Decides (farm (turn n)) x (r .result)) (c .before .before .before .before .before .before .before .before .before .offered .ensures) (r .ensures) in
+    answers (turn n) (by-kind n (c .before .before .before .before .before .before .before .before .before .before .enum-told2 .given .1)) (sym (d .accepts (c .before .before .before .if5 .taken) .0)) (within-same (ap answerText (d .says)) (c .before .before .before .before .before .before .put-answer2 .ensures)) (omega arith)
 
 loop-less-4 : tie.Need-loop-less-4 Inv-loop μ-loop
-loop-less-4 c =
-    let t = c .before .before .before .before .before .before .before .before .before .before .before in
-    let e = t .before .before .before .before .find in
-    omega (arith, e .ensures .0, e .ensures .1, t .before .before .if3 .left)
+loop-less-4 c = less (turn (c .before .before .before .before .before .before .before .before .before))
 
 loop-again-4 : tie.Need-loop-again-4 Inv-loop μ-loop
 unfolding called jobLine
 loop-again-4 c =
-    let t = c .before .before .before .before .before .before .before .before .before .before .before in
-    let l = c .before .before .before .before .before .before .before .before .before .before .before .before .before .before .before .before .before .before .loop in
-    let e = t .before .before .before .before .find in
-    let w = t .before .before .before .with-bytes in
-    let o = t .before .row-of in
+    let n = c .before .before .before .before .before .before .before .before .before in
     let r = c .before .before .before .before .before .offer-unchecked in
-    let d = subst (λ (x : Offer). Decides (l .farm) x (r .result)) (c .before .before .before .before .before .before .offered .ensures) (r .ensures) in
-    let said : ended (l .farm) (pendingOf (w .result)) ≡ jobLine (l .farm) (offerIn (o .result .count) (o .result .numbers)) =
-    rest-row (l .farm) (w .result) ∙ ap (byRow (l .farm)) (sym (o .ensures)) ∙ row-turn (l .farm) (o .result) (sym (t .in-turn .ensures) ∙ not-false _ (c .before .before .before .before .before .before .before .before .before .before .if4 .left)) ∙ rw (c .before .before .before .before .before .before .before .enum-told2 .given .1) in (
-      day-line (l .inv .0) (w .result) (e .ensures .0) (w .ensures) (omega (arith, e .ensures .1, t .before .before .if3 .left)) said (sym (d .refuses (c .if5 .left))) refl
-          (within-same (ap answerText (d .says)) (c .before .before .before .put-answer2 .ensures)) (omega (arith, c .before .before .before .put-answer2 .ensures .within, l .inv .1, t .before .before .before .before .before .if2 .left)),
-      l .inv .1,
-    )
+    let d = subst (λ (x : Offer). Decides (farm (turn n)) x (r .result)) (c .before .before .before .before .before .before .offered .ensures) (r .ensures) in
+    answers (turn n) (by-kind n (c .before .before .before .before .before .before .before .enum-told2 .given .1)) (sym (d .refuses (c .if5 .left))) (within-same (ap answerText (d .says)) (c .before .before .before .put-answer2 .ensures)) (omega arith)
 
 enum-told-3 : tie.Need-enum-told-3 Inv-loop μ-loop
 enum-told-3 c = search needs
@@ -204,147 +280,60 @@ array-read-move-unchecked : tie.Need-array-read-move-unchecked Inv-loop μ-loop
 array-read-move-unchecked c = search needs
 
 move-unchecked-requires : tie.Need-move-unchecked-requires Inv-loop μ-loop
-move-unchecked-requires c κs =
-    let t = c .before .before .before .before in
-    let l = c .before .before .before .before .before .before .before .before .before .before .before .loop in
-    let s = c .before .before .before .before .before .before .before .before .before .before .before .before .before .before .before .before .before in
-    reachable-passes (l .farm) (day-reachable (l .inv .0) (s .pre)) (subst (λ (k : Kind). inTurn k (l .farm .opened) ≡ true) (c .enum-told3 .given .1) (sym (t .in-turn .ensures) ∙ not-false _ (c .before .before .before .if4 .left)))
+move-unchecked-requires c κs = let n = c .before .before in passes n (kind-turn n (c .enum-told3 .given .1))
 
 put-answer-requires-3 : tie.Need-put-answer-requires-3 Inv-loop μ-loop
-put-answer-requires-3 c κs =
-    let l = c .before .before .before .before .before .before .before .before .before .before .before .before .before .before .before .before .loop in
-    omega (arith, l .inv .0 .size, l .inv .1, c .before .before .before .before .before .before .before .before .before .before .before .before .before .before .if2 .left)
+put-answer-requires-3 c κs = omega (arith, room (turn (c .before .before .before .before .before .before .before)))
 
 loop-less-5 : tie.Need-loop-less-5 Inv-loop μ-loop
-loop-less-5 c =
-    let t = c .before .before .before .before .before .before .before .before .before .before .before .before in
-    let e = t .before .before .before .before .find in
-    omega (arith, e .ensures .0, e .ensures .1, t .before .before .if3 .left)
+loop-less-5 c = less (turn (c .before .before .before .before .before .before .before .before .before .before))
 
 loop-again-5 : tie.Need-loop-again-5 Inv-loop μ-loop
 unfolding called clockLine
 loop-again-5 c =
-    let t = c .before .before .before .before .before .before .before .before .before .before .before .before in
-    let l = c .before .before .before .before .before .before .before .before .before .before .before .before .before .before .before .before .before .before .before .loop in
-    let s = c .before .before .before .before .before .before .before .before .before .before .before .before .before .before .before .before .before .before .before .before .before .before .before .before .before in
-    let e = t .before .before .before .before .find in
-    let w = t .before .before .before .with-bytes in
-    let o = t .before .row-of in
+    let n = c .before .before .before .before .before .before .before .before .before .before in
     let m = c .before .before .before .before .before .before .before .move-unchecked in
-    let k = move-refused (l .farm) (getD (o .result .numbers) 0 0) lent (m .result) (m .ensures) (not-true _ (c .before .before .before .before .if6 .taken)) in
-    let said : ended (l .farm) (pendingOf (w .result)) ≡ clockLine (l .farm) (getD (o .result .numbers) 0 0) =
-    rest-row (l .farm) (w .result) ∙ ap (byRow (l .farm)) (sym (o .ensures)) ∙ row-turn (l .farm) (o .result) (sym (t .in-turn .ensures) ∙ not-false _ (c .before .before .before .before .before .before .before .before .before .before .before .if4 .left)) ∙ rw (c .before .before .before .before .before .before .before .before .enum-told3 .given .1) in (
-      day-line (l .inv .0) (w .result) (e .ensures .0) (w .ensures) (omega (arith, e .ensures .1, t .before .before .if3 .left)) said (sym (k .0)) refl
-          (within-same (clock-plain (l .farm) (getD (o .result .numbers) 0 0) _ (k .1) (m .ensures .says)) (c .before .before .put-answer3 .ensures)) (omega (arith, c .before .before .put-answer3 .ensures .within, l .inv .1, t .before .before .before .before .before .if2 .left)),
-      l .inv .1,
-    )
-
-array-read-farm : tie.Need-array-read-farm Inv-loop μ-loop
-array-read-farm c = search needs
+    let k = move-refused (farm (turn n)) (first (turn n)) lent (m .result) (m .ensures) (not-true _ (c .before .before .before .before .if6 .taken)) in
+    answers (turn n) (by-kind n (c .before .before .before .before .before .before .before .before .enum-told3 .given .1)) (sym (k .0)) (within-same (clock-plain (farm (turn n)) (first (turn n)) _ (k .1) (m .ensures .says)) (c .before .before .put-answer3 .ensures)) (omega arith)
 
 put-answer-requires-4 : tie.Need-put-answer-requires-4 Inv-loop μ-loop
-put-answer-requires-4 c κs =
-    let l = c .before .before .before .before .before .before .before .before .before .before .before .before .before .before .before .before .before .before .loop in
-    omega (arith, l .inv .0 .size, l .inv .1, c .before .before .before .before .before .before .before .before .before .before .before .before .before .before .before .before .if2 .left)
+put-answer-requires-4 c κs = omega (arith, room (turn (c .before .before .before .before .before .before .before .before .before)))
 
 loop-less-6 : tie.Need-loop-less-6 Inv-loop μ-loop
-loop-less-6 c =
-    let t = c .before .before .before .before .before .before .before .before .before .before .before .before .before .before in
-    let e = t .before .before .before .before .find in
-    omega (arith, e .ensures .0, e .ensures .1, t .before .before .if3 .left)
+loop-less-6 c = less (turn (c .before .before .before .before .before .before .before .before .before .before .before .before))
 
 loop-again-6 : tie.Need-loop-again-6 Inv-loop μ-loop
 unfolding called clockLine
 loop-again-6 c =
-    let t = c .before .before .before .before .before .before .before .before .before .before .before .before .before .before in
-    let l = c .before .before .before .before .before .before .before .before .before .before .before .before .before .before .before .before .before .before .before .before .before .loop in
-    let s = c .before .before .before .before .before .before .before .before .before .before .before .before .before .before .before .before .before .before .before .before .before .before .before .before .before .before .before in
-    let e = t .before .before .before .before .find in
-    let w = t .before .before .before .with-bytes in
-    let o = t .before .row-of in
-    let m = c .before .before .before .before .before .before .before .before .before .move-unchecked in
-    let reach = day-reachable (l .inv .0) (s .pre) in
-    let is-open = subst (λ (k : Kind). inTurn k (l .farm .opened) ≡ true) (c .before .before .before .before .before .before .before .before .before .before .enum-told3 .given .1) (sym (t .in-turn .ensures) ∙ not-false _ (c .before .before .before .before .before .before .before .before .before .before .before .before .before .if4 .left)) in
-    let sized = reachable-sized (l .farm) reach is-open in
-    let b : Begins (l .farm) (getD (o .result .numbers) 0 0) (m .result .due) = record { passes = reachable-passes (l .farm) reach is-open; due = m .ensures .due } in
-    let g : m .result .granted ≡ true = not-false _ (c .before .before .before .before .before .before .if6 .left) in
-    let k = move-taken (l .farm) (getD (o .result .numbers) 0 0) lent (m .result) (m .ensures) g in
-    let q = none-due-yet (l .farm) (getD (o .result .numbers) 0 0) (m .result .due) sized b (c .before .before .before .before .if7 .taken) in
-    let said : ended (l .farm) (pendingOf (w .result)) ≡ clockLine (l .farm) (getD (o .result .numbers) 0 0) =
-    rest-row (l .farm) (w .result) ∙ ap (byRow (l .farm)) (sym (o .ensures)) ∙ row-turn (l .farm) (o .result) (sym (t .in-turn .ensures) ∙ not-false _ (c .before .before .before .before .before .before .before .before .before .before .before .before .before .if4 .left)) ∙ rw (c .before .before .before .before .before .before .before .before .before .before .enum-told3 .given .1) in (
-      day-line (l .inv .0) (w .result) (e .ensures .0) (w .ensures) (omega (arith, e .ensures .1, t .before .before .if3 .left)) said (q .0 ∙ sym (k .0)) refl
-          (within-same (clock-plain (l .farm) (getD (o .result .numbers) 0 0) _ (k .1 ∙ q .1) (m .ensures .says)) (c .before .before .put-answer4 .ensures)) (omega (arith, c .before .before .put-answer4 .ensures .within, l .inv .1, t .before .before .before .before .before .if2 .left)),
-      l .inv .1,
-    )
+    let g = c .before .before .before .before .before .before in
+    let k = move-taken (old g) (time g) lent (step g) (decides g) (granted g) in
+    let q = none-due-yet (old g) (time g) (step g .due) (sized g) (begins g) (c .before .before .before .before .if7 .taken) in
+    answers (turn (choice g)) (by-kind (choice g) (g .before .before .before .before .enum-told3 .given .1)) (q .0 ∙ sym (k .0)) (within-same (clock-plain (old g) (time g) _ (k .1 ∙ q .1) (decides g .says)) (c .before .before .put-answer4 .ensures)) (omega arith)
 
 write-rows-requires : tie.Need-write-rows-requires Inv-loop μ-loop
-write-rows-requires c κs =
-    let t = c .before .before .before .before .before .before .before .before .before .before .before .before .before .before in
-    let l = c .before .before .before .before .before .before .before .before .before .before .before .before .before .before .before .before .before .before .before .before .before .loop in
-    let s = c .before .before .before .before .before .before .before .before .before .before .before .before .before .before .before .before .before .before .before .before .before .before .before .before .before .before .before in
-    let o = t .before .row-of in
-    let m = c .before .before .before .before .before .before .before .before .before .move-unchecked in
-    let reach = day-reachable (l .inv .0) (s .pre) in
-    let is-open = subst (λ (k : Kind). inTurn k (l .farm .opened) ≡ true) (c .before .before .before .before .before .before .before .before .before .before .enum-told3 .given .1) (sym (t .in-turn .ensures) ∙ not-false _ (c .before .before .before .before .before .before .before .before .before .before .before .before .before .if4 .left)) in
-    let sized = reachable-sized (l .farm) reach is-open in
-    let b : Begins (l .farm) (getD (o .result .numbers) 0 0) (m .result .due) = record { passes = reachable-passes (l .farm) reach is-open; due = m .ensures .due } in
-    let g : m .result .granted ≡ true = not-false _ (c .before .before .before .before .before .before .if6 .left) in
-    rows-asked (l .farm) (getD (o .result .numbers) 0 0) (m .result) sized b (m .ensures) g
+write-rows-requires c κs = let g = c .before .before .before .before .before .before in rows-asked (old g) (time g) (step g) (sized g) (begins g) (decides g) (granted g)
 
 array-read-moved : tie.Need-array-read-moved Inv-loop μ-loop
 array-read-moved c = search needs
 
 moved-requires : tie.Need-moved-requires Inv-loop μ-loop
-moved-requires c κs =
-    let t = c .before .before .before .before .before .before .before .before .before .before .before .before .before .before .before in
-    let l = c .before .before .before .before .before .before .before .before .before .before .before .before .before .before .before .before .before .before .before .before .before .before .loop in
-    let s = c .before .before .before .before .before .before .before .before .before .before .before .before .before .before .before .before .before .before .before .before .before .before .before .before .before .before .before .before in
-    let m = c .before .before .before .before .before .before .before .before .before .before .move-unchecked in
-    record { passes = reachable-passes (l .farm) (day-reachable (l .inv .0) (s .pre)) (subst (λ (k : Kind). inTurn k (l .farm .opened) ≡ true) (c .before .before .before .before .before .before .before .before .before .before .before .enum-told3 .given .1) (sym (t .in-turn .ensures) ∙ not-false _ (c .before .before .before .before .before .before .before .before .before .before .before .before .before .before .if4 .left))); due = m .ensures .due }
+moved-requires c κs = begins (c .before .before .before .before .before .before .before)
 
 put-move-requires : tie.Need-put-move-requires Inv-loop μ-loop
 put-move-requires c κs =
-    let t = c .before .before .before .before .before .before .before .before .before .before .before .before .before .before .before .before .before .before in
-    let l = c .before .before .before .before .before .before .before .before .before .before .before .before .before .before .before .before .before .before .before .before .before .before .before .before .before .loop in
-    let s = c .before .before .before .before .before .before .before .before .before .before .before .before .before .before .before .before .before .before .before .before .before .before .before .before .before .before .before .before .before .before .before in
-    let o = t .before .row-of in
-    let m = c .before .before .before .before .before .before .before .before .before .before .before .before .before .move-unchecked in
-    let reach = day-reachable (l .inv .0) (s .pre) in
-    let is-open = subst (λ (k : Kind). inTurn k (l .farm .opened) ≡ true) (c .before .before .before .before .before .before .before .before .before .before .before .before .before .before .enum-told3 .given .1) (sym (t .in-turn .ensures) ∙ not-false _ (c .before .before .before .before .before .before .before .before .before .before .before .before .before .before .before .before .before .if4 .left)) in
-    let sized = reachable-sized (l .farm) reach is-open in
-    let b : Begins (l .farm) (getD (o .result .numbers) 0 0) (m .result .due) = record { passes = reachable-passes (l .farm) reach is-open; due = m .ensures .due } in
-    let g : m .result .granted ≡ true = not-false _ (c .before .before .before .before .before .before .before .before .before .before .if6 .left) in
-    let f = rows-fit (l .farm) (getD (o .result .numbers) 0 0) (m .result) sized b (m .ensures) g _ _ (c .before .before .before .write-rows .ensures) in
-    (f .0, f .1, omega (arith, l .inv .0 .size, l .inv .1, c .before .before .before .before .before .before .before .before .before .before .before .before .before .before .before .before .before .before .before .before .before .before .before .if2 .left))
+    let g = c .before .before .before .before .before .before .before .before .before .before in
+    let f = rows-fit (old g) (time g) (step g) (sized g) (begins g) (decides g) (granted g) _ _ (c .before .before .before .write-rows .ensures) in
+    (f .0, f .1, room (turn (choice g)))
 
 loop-less-7 : tie.Need-loop-less-7 Inv-loop μ-loop
-loop-less-7 c =
-    let t = c .before .before .before .before .before .before .before .before .before .before .before .before .before .before .before .before .before .before .before .before .before in
-    let e = t .before .before .before .before .find in
-    omega (arith, e .ensures .0, e .ensures .1, t .before .before .if3 .left)
+loop-less-7 c = less (turn (c .before .before .before .before .before .before .before .before .before .before .before .before .before .before .before .before .before .before .before))
 
 loop-again-7 : tie.Need-loop-again-7 Inv-loop μ-loop
 unfolding called clockLine
 loop-again-7 c =
-    let t = c .before .before .before .before .before .before .before .before .before .before .before .before .before .before .before .before .before .before .before .before .before in
-    let l = c .before .before .before .before .before .before .before .before .before .before .before .before .before .before .before .before .before .before .before .before .before .before .before .before .before .before .before .before .loop in
-    let s = c .before .before .before .before .before .before .before .before .before .before .before .before .before .before .before .before .before .before .before .before .before .before .before .before .before .before .before .before .before .before .before .before .before .before in
-    let e = t .before .before .before .before .find in
-    let w = t .before .before .before .with-bytes in
-    let o = t .before .row-of in
-    let m = c .before .before .before .before .before .before .before .before .before .before .before .before .before .before .before .before .move-unchecked in
-    let reach = day-reachable (l .inv .0) (s .pre) in
-    let is-open = subst (λ (k : Kind). inTurn k (l .farm .opened) ≡ true) (c .before .before .before .before .before .before .before .before .before .before .before .before .before .before .before .before .before .enum-told3 .given .1) (sym (t .in-turn .ensures) ∙ not-false _ (c .before .before .before .before .before .before .before .before .before .before .before .before .before .before .before .before .before .before .before .before .if4 .left)) in
-    let sized = reachable-sized (l .farm) reach is-open in
-    let b : Begins (l .farm) (getD (o .result .numbers) 0 0) (m .result .due) = record { passes = reachable-passes (l .farm) reach is-open; due = m .ensures .due } in
-    let g : m .result .granted ≡ true = not-false _ (c .before .before .before .before .before .before .before .before .before .before .before .before .before .if6 .left) in
-    let k = move-taken (l .farm) (getD (o .result .numbers) 0 0) lent (m .result) (m .ensures) g in
-    let said : ended (l .farm) (pendingOf (w .result)) ≡ clockLine (l .farm) (getD (o .result .numbers) 0 0) =
-    rest-row (l .farm) (w .result) ∙ ap (byRow (l .farm)) (sym (o .ensures)) ∙ row-turn (l .farm) (o .result) (sym (t .in-turn .ensures) ∙ not-false _ (c .before .before .before .before .before .before .before .before .before .before .before .before .before .before .before .before .before .before .before .before .if4 .left)) ∙ rw (c .before .before .before .before .before .before .before .before .before .before .before .before .before .before .before .before .before .enum-told3 .given .1) in (
-      day-line (l .inv .0) (w .result) (e .ensures .0) (w .ensures) (omega (arith, e .ensures .1, t .before .before .if3 .left)) said (c .before .before .before .before .before .moved .ensures ∙ sym (k .0)) refl
-          (within-same (clock-text (l .farm) (getD (o .result .numbers) 0 0) (m .result) sized b (m .ensures) g _ _ (c .before .before .before .before .before .before .write-rows .ensures)) (c .before .before .put-move .ensures)) (omega (arith, c .before .before .put-move .ensures .within, l .inv .1, t .before .before .before .before .before .if2 .left)),
-      l .inv .1,
-    )
+    let g = c .before .before .before .before .before .before .before .before .before .before .before .before .before in
+    let k = move-taken (old g) (time g) lent (step g) (decides g) (granted g) in
+    answers (turn (choice g)) (by-kind (choice g) (g .before .before .before .before .enum-told3 .given .1)) (c .before .before .before .before .before .moved .ensures ∙ sym (k .0)) (within-same (clock-text (old g) (time g) (step g) (sized g) (begins g) (decides g) (granted g) _ _ (c .before .before .before .before .before .before .write-rows .ensures)) (c .before .before .put-move .ensures)) (omega arith)
 
 enum-told-4 : tie.Need-enum-told-4 Inv-loop μ-loop
 enum-told-4 c = search needs
@@ -353,62 +342,67 @@ opening-requires : tie.Need-opening-requires Inv-loop μ-loop
 opening-requires c κs = subst FarmRow (sym (c .before .before .before .before .before .row-of .ensures)) (row-farm (pendingOf (c .before .before .before .before .before .before .before .with-bytes .result))) (c .enum-told4 .given .1)
 
 put-answer-requires-5 : tie.Need-put-answer-requires-5 Inv-loop μ-loop
-put-answer-requires-5 c κs =
-    let l = c .before .before .before .before .before .before .before .before .before .before .before .before .before .before .loop in
-    omega (arith, l .inv .0 .size, l .inv .1, c .before .before .before .before .before .before .before .before .before .before .before .before .if2 .left)
+put-answer-requires-5 c κs = omega (arith, room (turn (c .before .before .before .before .before)))
 
 loop-less-8 : tie.Need-loop-less-8 Inv-loop μ-loop
-loop-less-8 c =
-    let t = c .before .before .before .before .before .before .before .before .before .before in
-    let e = t .before .before .before .before .find in
-    omega (arith, e .ensures .0, e .ensures .1, t .before .before .if3 .left)
+loop-less-8 c = less (turn (c .before .before .before .before .before .before .before .before))
 
 loop-again-8 : tie.Need-loop-again-8 Inv-loop μ-loop
 unfolding called farmLine
 loop-again-8 c =
-    let t = c .before .before .before .before .before .before .before .before .before .before in
-    let l = c .before .before .before .before .before .before .before .before .before .before .before .before .before .before .before .before .before .loop in
-    let s = c .before .before .before .before .before .before .before .before .before .before .before .before .before .before .before .before .before .before .before .before .before .before .before in
-    let e = t .before .before .before .before .find in
-    let w = t .before .before .before .with-bytes in
-    let o = t .before .row-of in
+    let n = c .before .before .before .before .before .before .before .before in
     let p = c .before .before .before .before .before .opening .ensures in
-    let said : ended (l .farm) (pendingOf (w .result)) ≡ farmLine (o .result .numbers) (allowancesIn (o .result)) =
-    rest-row (l .farm) (w .result) ∙ ap (byRow (l .farm)) (sym (o .ensures)) ∙ row-turn (l .farm) (o .result) (sym (t .in-turn .ensures) ∙ not-false _ (c .before .before .before .before .before .before .before .before .before .if4 .left)) ∙ rw (c .before .before .before .before .before .before .enum-told4 .given .1) in (
-      day-line (l .inv .0) (w .result) (e .ensures .0) (w .ensures) (omega (arith, e .ensures .1, t .before .before .if3 .left)) said (p .hands) refl
-          (within-same (ap answerText (p .says)) (c .before .before .put-answer5 .ensures)) (omega (arith, c .before .before .put-answer5 .ensures .within, l .inv .1, t .before .before .before .before .before .if2 .left)),
-      l .inv .1,
-    )
+    answers (turn n) (by-kind n (c .before .before .before .before .before .before .enum-told4 .given .1)) (p .hands) (within-same (ap answerText (p .says)) (c .before .before .put-answer5 .ensures)) (omega arith)
 
 enum-told-5 : tie.Need-enum-told-5 Inv-loop μ-loop
 enum-told-5 c = search needs
 
-put-unread-requires-2 : tie.Need-put-unread-requires-2 Inv-loop μ-loop
-put-unread-requires-2 c κs =
-    let l = c .before .before .before .before .before .before .before .before .before .before .before .before .loop in
-    omega (arith, l .inv .0 .size, l .inv .1, c .before .before .before .before .before .before .before .before .before .before .if2 .left)
+array-read-withdraw-unchecked : tie.Need-array-read-withdraw-unchecked Inv-loop μ-loop
+array-read-withdraw-unchecked c = search needs
+
+withdraw-unchecked-requires : tie.Need-withdraw-unchecked-requires Inv-loop μ-loop
+withdraw-unchecked-requires c κs = let n = c .before .before in passes n (kind-turn n (c .enum-told5 .given .1))
+
+put-answer-requires-6 : tie.Need-put-answer-requires-6 Inv-loop μ-loop
+put-answer-requires-6 c κs = omega (arith, room (turn (c .before .before .before .before)))
+
+sub-farm : tie.Need-sub-farm Inv-loop μ-loop
+sub-farm c = omega (arith, c .before .before .before .before .before .before .before .withdraw-unchecked .ensures .grants (c .before .before .if8 .taken) .1)
 
 loop-less-9 : tie.Need-loop-less-9 Inv-loop μ-loop
-loop-less-9 c =
-    let t = c .before .before .before .before .before .before .before .before in
-    let e = t .before .before .before .before .find in
-    omega (arith, e .ensures .0, e .ensures .1, t .before .before .if3 .left)
+loop-less-9 c = less (turn (c .before .before .before .before .before .before .before .before .before .before))
 
 loop-again-9 : tie.Need-loop-again-9 Inv-loop μ-loop
-unfolding called
+unfolding called withdrawLine
 loop-again-9 c =
-    let t = c .before .before .before .before .before .before .before .before in
-    let l = c .before .before .before .before .before .before .before .before .before .before .before .before .before .before .before .loop in
-    let s = c .before .before .before .before .before .before .before .before .before .before .before .before .before .before .before .before .before .before .before .before .before in
-    let e = t .before .before .before .before .find in
-    let w = t .before .before .before .with-bytes in
-    let o = t .before .row-of in
-    let said : ended (l .farm) (pendingOf (w .result)) ≡ unread (l .farm) =
-    rest-row (l .farm) (w .result) ∙ ap (byRow (l .farm)) (sym (o .ensures)) ∙ row-turn (l .farm) (o .result) (sym (t .in-turn .ensures) ∙ not-false _ (c .before .before .before .before .before .before .before .if4 .left)) ∙ rw (c .before .before .before .before .enum-told5 .given .1) in (
-      day-line (l .inv .0) (w .result) (e .ensures .0) (w .ensures) (omega (arith, e .ensures .1, t .before .before .if3 .left)) said (refl) refl
-          (c .before .before .put-unread2 .ensures) (omega (arith, c .before .before .put-unread2 .ensures .within, l .inv .1, t .before .before .before .before .before .if2 .left)),
-      l .inv .1,
-    )
+    let n = c .before .before .before .before .before .before .before .before .before .before in
+    let d = c .before .before .before .before .before .before .before .withdraw-unchecked .ensures in
+    answers (turn n) (by-kind n (c .before .before .before .before .before .before .before .before .enum-told5 .given .1)) (sym (d .grants (c .before .before .if8 .taken) .0)) (within-same (ap answerText (d .says)) (c .before .before .before .before .before .put-answer6 .ensures)) (omega arith)
+
+loop-less-10 : tie.Need-loop-less-10 Inv-loop μ-loop
+loop-less-10 c = less (turn (c .before .before .before .before .before .before .before .before))
+
+loop-again-10 : tie.Need-loop-again-10 Inv-loop μ-loop
+unfolding called withdrawLine
+loop-again-10 c =
+    let n = c .before .before .before .before .before .before .before .before in
+    let d = c .before .before .before .before .before .withdraw-unchecked .ensures in
+    answers (turn n) (by-kind n (c .before .before .before .before .before .before .enum-told5 .given .1)) (sym (d .refuses (c .if8 .left))) (within-same (ap answerText (d .says)) (c .before .before .before .put-answer6 .ensures)) (omega arith)
+
+enum-told-6 : tie.Need-enum-told-6 Inv-loop μ-loop
+enum-told-6 c = search needs
+
+put-unread-requires-2 : tie.Need-put-unread-requires-2 Inv-loop μ-loop
+put-unread-requires-2 c κs = omega (arith, room (turn (c .before .before .before)))
+
+loop-less-11 : tie.Need-loop-less-11 Inv-loop μ-loop
+loop-less-11 c = less (turn (c .before .before .before .before .before .before))
+
+loop-again-11 : tie.Need-loop-again-11 Inv-loop μ-loop
+unfolding called
+loop-again-11 c =
+    let n = c .before .before .before .before .before .before in
+    answers (turn n) (by-kind n (c .before .before .before .before .enum-told6 .given .1)) refl (c .before .before .put-unread2 .ensures) (omega arith)
 
 same-length-3 : tie.Need-same-length-3 Inv-loop μ-loop
 same-length-3 c = search needs
@@ -475,8 +469,17 @@ answer-block-spec =
     loop-less-8
     loop-again-8
     enum-told-5
-    put-unread-requires-2
+    array-read-withdraw-unchecked
+    withdraw-unchecked-requires
+    put-answer-requires-6
+    sub-farm
     loop-less-9
     loop-again-9
+    loop-less-10
+    loop-again-10
+    enum-told-6
+    put-unread-requires-2
+    loop-less-11
+    loop-again-11
     same-length-3
     returns-4)
