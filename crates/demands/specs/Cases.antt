@@ -12,7 +12,7 @@ use Rattle.keys.specs.Model.{noLater, insertKey, sortOnto}
 use Rattle.booking.specs.Best.{units}
 use Rattle.booking.specs.Model.{nodeKeys, ranked, search, bookingOf, bookedAt, bookOf}
 use Rattle.soundness.specs.Model.{noneOf, allDiffer, jobWithin, sharesKept, jobKept, jobPasses, jobsPass}
-use Rattle.walk.specs.declared.Chunk.{Chunk}
+use Rattle.walk.specs.Model.{noChunk}
 use Rattle.planner.specs.declared.Farm.{Farm}
 use Rattle.planner.specs.declared.Offer.{Offer}
 use Rattle.limits.specs.Model.{allAtMost, allAtLeast, costsWithin}
@@ -68,10 +68,6 @@ run r = outcome (farmOf r) (r .offer)
 -- the model gives what the row expects
 abbrev pub Right : Row → Type 0
 Right r = run r ≡ r .expected
-
--- a record of lent memory
-abbrev noChunk : Chunk
-noChunk = record { job = 0; show = 0; node = 0; units = 0; start = 0; sent = 0; finish = 0 }
 
 -- ---- The table
 

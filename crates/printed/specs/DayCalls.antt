@@ -13,6 +13,7 @@ use lib.Seq.{take-at}
 use Rattle.lists.specs.Laws.{map-join}
 use Rattle.shares.specs.declared.Costs.{Costs}
 use Rattle.walk.specs.declared.Chunk.{Chunk}
+use Rattle.walk.specs.Model.{noChunk}
 use Rattle.planner.specs.declared.Farm.{Farm}
 use Rattle.planner.specs.declared.Offer.{Offer}
 use Rattle.planner.specs.Calls.{hasNumber, ofNumber, Word, Open, Yes, Clock, Shown, Account, Gone, No, Said, granted, refused, unopened, showsWithin, openSaid, heldBy, allowanceOf, accountSaid, computeOr, planned, accepts, yesOf, offerAsked, offerSaid, withdrawSaid}
@@ -31,16 +32,12 @@ use Rattle.printed.specs.Model.{answers}
 
 -- ---- The calls that lines are
 
--- the record of which the program lends 1,024 to a clock move
-abbrev pub blank : Chunk
-blank = record { job = 0; show = 0; node = 0; units = 0; start = 0; sent = 0; finish = 0 }
-
 -- the call that a line of a kind and its numbers is once a farm is opened: a `job` line an offer, a `clock` line a move, a `withdraw` line a withdrawal, the
 -- others none
 abbrev pub callOf : Kind → List ℕ → List Call
 callOf kind.Farm ns = []
 callOf kind.Job ns = offer (offerIn (length ns) ns) ∷ []
-callOf kind.Clock ns = move (getD ns 0 0) (replicate lent blank) ∷ []
+callOf kind.Clock ns = move (getD ns 0 0) (replicate lent noChunk) ∷ []
 callOf kind.Account ns = []
 callOf kind.Withdraw ns = withdraw (getD ns 0 0) ∷ []
 callOf kind.Unreadable ns = []
@@ -163,7 +160,7 @@ kind-farm w kind.Farm ns o = ap (λ (b : Bool). cond {A = Answered} (not b) (far
 kind-farm w kind.Job ns o = ap (λ (b : Bool). cond {A = Answered} b (jobLine (w .farm) (offerIn (length ns) ns)) (unread (w .farm)) .farm) o
 kind-farm w kind.Clock ns o =
     ap (λ (b : Bool). cond {A = Answered} b (clockLine (w .farm) (getD ns 0 0)) (unread (w .farm)) .farm) o
-    ∙ ap (moveFarm (w .farm) (getD ns 0 0)) (sym (length-replicate {A = Chunk} lent blank))
+    ∙ ap (moveFarm (w .farm) (getD ns 0 0)) (sym (length-replicate {A = Chunk} lent noChunk))
 kind-farm w kind.Account ns o = ap (λ (b : Bool). cond {A = Answered} b (accountLine (w .farm) (getD ns 0 0)) (unread (w .farm)) .farm) o
 kind-farm w kind.Withdraw ns o = ap (λ (b : Bool). cond {A = Answered} b (withdrawLine (w .farm) (getD ns 0 0)) (unread (w .farm)) .farm) o
 kind-farm w kind.Unreadable ns o = refl
@@ -439,9 +436,9 @@ chunks-reading = record { unread = λ f ns. refl; opens = λ f ns n c al. refl; 
     calls w kind.Clock ns al =
         let f = w .farm in
         let t = getD ns 0 0 in
-        let m : List Chunk = replicate lent blank in
+        let m : List Chunk = replicate lent noChunk in
         ap (λ (l : List Chunk). map chunkOf (w .lines) ++ l)
-        (chunks-printed (moveLines f t lent) (moveSaid f t lent) ∙ ap (moveLines f t) (sym (length-replicate {A = Chunk} lent blank)) ∙ sym (move-chunks f t m))
+        (chunks-printed (moveLines f t lent) (moveSaid f t lent) ∙ ap (moveLines f t) (sym (length-replicate {A = Chunk} lent noChunk)) ∙ sym (move-chunks f t m))
         ∙ sym (map-join chunkOf (w .lines) (linesBy f (move t m)))
     calls w kind.Account ns al = append-nil (map chunkOf (w .lines))
     calls w kind.Withdraw ns al = none w
@@ -488,7 +485,7 @@ tells-reading {A} g noted x = record {
         let s = moveSaid (w .farm) (getD ns 0 0) lent in
         none w (collect (told (g (w .farm) ns)) (map chunk (moveLines (w .farm) (getD ns 0 0) lent) ++ answer s ∷ []))
         (told-after (g (w .farm) ns) (moveLines (w .farm) (getD ns 0 0) lent) s ∙ speaks-none (g (w .farm) ns) s Clock (move-speaks (w .farm) (getD ns 0 0) lent) (x .clock (w .farm) ns) (x .no (w .farm) ns))
-        ∙ x .moves w (getD ns 0 0) (replicate lent blank)
+        ∙ x .moves w (getD ns 0 0) (replicate lent noChunk)
     calls w kind.Account ns al = one w ns (accountSaid (w .farm) (getD ns 0 0)) Account (account-speaks (w .farm) (getD ns 0 0)) (x .account (w .farm) ns)
     calls w kind.Withdraw ns al = ap (λ (l : List A). noted w ++ l) (append-nil _) ∙ x .withdrawals w ns
     calls w kind.Unreadable ns al = none w (told (g (w .farm) ns) (answer (refused 11)) ++ []) (append-nil (told (g (w .farm) ns) (answer (refused 11))) ∙ x .no (w .farm) ns [])

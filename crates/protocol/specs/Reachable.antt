@@ -6,7 +6,7 @@ use Prim.Native.Nat.{ℕ}
 use lib.Dec.{leb, eqb}
 use lib.ListN.{length, getD, replicate, length-replicate}
 use Rattle.shares.specs.declared.Costs.{Costs}
-use Rattle.walk.specs.declared.Chunk.{Chunk}
+use Rattle.walk.specs.Model.{noChunk}
 use Rattle.planner.specs.declared.Farm.{Farm}
 use Rattle.planner.specs.declared.Offer.{Offer}
 use Rattle.planner.specs.Model.{Sized, between, costsWithin}
@@ -52,16 +52,13 @@ opening-reachable n c al = go (between 1 n 64) (costsWithin c) (showsWithin al) 
 pub call-reachable : (f : Farm) (c : Call) → Reachable f → Reachable (handed f c)
 call-reachable f c r o = reached-call f c (r (sym (handed-keeps f c .opened) ∙ o))
 
-noChunk : Chunk
-noChunk = record { job = 0; show = 0; node = 0; units = 0; start = 0; sent = 0; finish = 0 }
-
-pub offer-reachable : (f : Farm) (o : Offer) → Reachable f → Reachable (offerFarm f o)
+offer-reachable : (f : Farm) (o : Offer) → Reachable f → Reachable (offerFarm f o)
 offer-reachable f o r = call-reachable f (offer o) r
 
-pub move-reachable : (f : Farm) (t n : ℕ) → Reachable f → Reachable (moveFarm f t n)
+move-reachable : (f : Farm) (t n : ℕ) → Reachable f → Reachable (moveFarm f t n)
 move-reachable f t n r = subst (λ (k : ℕ). Reachable (moveFarm f t k)) (length-replicate n noChunk) (call-reachable f (move t (replicate n noChunk)) r)
 
-pub withdraw-reachable : (f : Farm) (n : ℕ) → Reachable f → Reachable (withdrawFarm f n)
+withdraw-reachable : (f : Farm) (n : ℕ) → Reachable f → Reachable (withdrawFarm f n)
 withdraw-reachable f n r = call-reachable f (withdraw n) r
 
 called-reachable : (f : Farm) (k : Kind) (n : ℕ) (ns al : List ℕ) → Reachable f → Reachable (called f k n ns al .farm)

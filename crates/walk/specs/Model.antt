@@ -35,6 +35,10 @@ emptyJob = record { number = 0; show = 0; size = 0; compute = 0; deadline = 0; b
 abbrev pub noJob : Job
 noJob = record { number = 0; show = 0; size = 0; compute = 0; deadline = 0; booking = record { start = 0; count = 0; nodes = []; shares = [] } }
 
+-- a record of lent memory in which nothing was written
+abbrev pub noChunk : Chunk
+noChunk = record { job = 0; show = 0; node = 0; units = 0; start = 0; sent = 0; finish = 0 }
+
 -- the farm's costs with another compute cost
 abbrev pub withCompute : Costs → ℕ → Costs
 withCompute c p = record { send = c .send; compute = p; linksetup = c .linksetup; nodesetup = c .nodesetup }
