@@ -11,10 +11,11 @@ use lib.Seq.{take-all}
 use Rattle.planner.specs.declared.Farm.{Farm}
 use Rattle.protocol.specs.declared.Session.{Session}
 use Rattle.protocol.specs.declared.Progress.{Progress}
-use Rattle.protocol.specs.Model.{Pending, Fed, behind, feed}
-use Rattle.protocol.specs.Feeding.{feed-append, stretch, stretch-join}
-use Rattle.protocol.specs.Rows.{pendingOf}
-use Rattle.protocol.specs.Promises.{Took, fedTo, largest}
+use Rattle.lines.specs.Model.{Pending, Fed, behind, feed}
+use Rattle.lines.specs.Feeding.{feed-append, stretch, stretch-join}
+use Rattle.lines.specs.Rows.{pendingOf}
+use Rattle.lines.specs.AnswerLines.{largest}
+use Rattle.protocol.specs.Promises.{Took, fedTo}
 use Rattle.protocol.specs.Reachable.{Reachable, feed-reachable}
 use Rattle.feeding.specs.declared.Sent.{Sent}
 

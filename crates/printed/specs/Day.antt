@@ -11,9 +11,9 @@ use Rattle.planner.specs.declared.Farm.{Farm}
 use Rattle.planner.specs.Calls.{unopened}
 use Rattle.text.specs.Model.{newline}
 use Rattle.reading.specs.Model.{onFirst}
-use Rattle.protocol.specs.Model.{Answered, answered, Pending, part, kept, ended, Fed, behind, feed, atEnd, longest}
-use Rattle.protocol.specs.Feeding.{feed-append, keptAll}
-use Rattle.protocol.specs.PendingLine.{kept-fits, kept-over}
+use Rattle.lines.specs.Model.{Answered, answered, Pending, part, kept, ended, Fed, behind, feed, atEnd, longest}
+use Rattle.lines.specs.Feeding.{feed-append, keptAll}
+use Rattle.lines.specs.PendingLine.{kept-fits, kept-over}
 use Rattle.printed.specs.Model.{linesIn, answers, dayText}
 
 -- ---- Bytes in front of the first line

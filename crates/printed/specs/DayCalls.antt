@@ -23,7 +23,7 @@ use Rattle.planner.specs.Clock.{issued, moveAsked, moveSaid, moveFarm, moveMemo
 use Rattle.reading.specs.declared.Kind.{Kind}
 use Rattle.reading.specs.declared.Kind.the-variants as kind
 use Rattle.reading.specs.Model.{lineKind, readable, numbersOf}
-use Rattle.protocol.specs.Model.{refusal, answerText, chunkText, chunkTexts, Answered, unread, costsIn, farmLine, computeIn, offerIn, jobLine, lent, clockLine, accountLine, withdrawLine, inTurn, called, recorded, longest, answered}
+use Rattle.lines.specs.Model.{refusal, answerText, chunkText, chunkTexts, Answered, unread, costsIn, farmLine, computeIn, offerIn, jobLine, lent, clockLine, accountLine, withdrawLine, inTurn, called, recorded, longest, answered}
 use Rattle.demands.specs.Kept.{run-keeps}
 use Rattle.demands.specs.CallLists.{Call, offer, withdraw, move, withStart, linesBy, Accepted, jobsBy, goneBy, History, opening, note, run}
 use Rattle.demands.specs.BegunJobs.{chunkOf}

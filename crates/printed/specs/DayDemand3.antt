@@ -22,7 +22,7 @@ use Rattle.planner.specs.Clock.{holds}
 use Rattle.reading.specs.declared.Kind.{Kind}
 use Rattle.reading.specs.declared.Kind.the-variants as kind
 use Rattle.reading.specs.Model.{lineKind, readable, numbersOf}
-use Rattle.protocol.specs.Model.{Answered, unread, costsIn, farmLine, accountLine, inTurn, called, recorded, longest, answered}
+use Rattle.lines.specs.Model.{Answered, unread, costsIn, farmLine, accountLine, inTurn, called, recorded, longest, answered}
 use Rattle.demands.specs.CallLists.{Call, Accepted, History, opening, run, heldOf, linesFor, FromFirst}
 use Rattle.demands.specs.BegunJobs.{chunkOf}
 use Rattle.demands.specs.Demand1.{open-keeps}

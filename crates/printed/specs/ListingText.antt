@@ -13,7 +13,7 @@ use Rattle.planner.specs.Clock.{keep, linesOfAll, raised, moveAsked, moveSaid, 
 use Rattle.text.specs.Model.{valueFrom}
 use Rattle.reading.specs.Model.{same, fields, allDigits, allNumbers, kindAmong, kindOf, readable}
 use Rattle.printing.specs.Model.{digits, reached, decimal, tabbed, lineText}
-use Rattle.protocol.specs.Model.{answerText, chunkTexts, farmLine, jobLine, clockLine, accountLine, called, recorded, answered}
+use Rattle.lines.specs.Model.{answerText, chunkTexts, farmLine, jobLine, clockLine, accountLine, called, recorded, answered}
 use Rattle.printed.specs.Model.{linesIn, answers, dayText}
 
 -- its lines, a tab for each space

@@ -8,7 +8,7 @@ use Rattle.planner.specs.declared.Farm.{Farm}
 use Rattle.planner.specs.Calls.{unopened}
 use Rattle.text.specs.Model.{newline}
 use Rattle.reading.specs.Model.{onFirst}
-use Rattle.protocol.specs.Model.{answered}
+use Rattle.lines.specs.Model.{answered}
 
 -- the lines of the input: each ends with a newline, which the last one may lack
 unfoldable pub linesIn : List ℕ → List (List ℕ)

@@ -5,18 +5,8 @@ use lib.ListN.{length, length-map}
 use mir.Val.{Val}
 use denote.Laws.{Is}
 use denote.Struct.Declared.{row}
-use Rattle.reading.specs.declared.Row.{Row}
-use Rattle.protocol.specs.declared.Rest.{Rest}
-use Rattle.reading.proofs.Row as numbered
-use Rattle.protocol.proofs.Rest as rest
 use Rattle.protocol.specs.declared.Session.{Session}
 use Rattle.protocol.proofs.Session as session
-
-pub bytes-length : {vs : List Val} (r : Rest) → Is (row rest.the-type) r vs → length (r .bytes) ≡ 1024
-bytes-length r p = sym (length-map (r .bytes) _) ∙ p .1 .1 .1 .0 .1 .0 .1
-
-pub numbers-length : {vs : List Val} (r : Row) → Is (row numbered.the-type) r vs → length (r .numbers) ≡ 38
-numbers-length r p = sym (length-map (r .numbers) _) ∙ p .1 .1 .1 .1 .0 .1 .0 .1
 
 pub rest-length : {vs : List Val} (s : Session) → Is (row session.the-type) s vs → length (s .rest .bytes) ≡ 1024
 rest-length s p = sym (length-map (s .rest .bytes) _) ∙ p .1 .1 .1 .0 .1 .1 .1 .0 .1 .0 .1

@@ -12,13 +12,14 @@ use Rattle.planner.specs.declared.Farm.{Farm}
 use Rattle.text.specs.Model.{newline}
 use Rattle.text.specs.Writing.{WroteWithin, wrote-none, wrote-same, wrote-join, wrote-length, within-same}
 use Rattle.reading.specs.Model.{before}
-use Rattle.protocol.specs.declared.Rest.{Rest}
+use Rattle.lines.specs.declared.Rest.{Rest}
 use Rattle.protocol.specs.declared.Session.{Session}
 use Rattle.protocol.specs.declared.Progress.{Progress}
-use Rattle.protocol.specs.Model.{Answered, Pending, part, long, ended, Fed, feed, atEnd, longest}
-use Rattle.protocol.specs.Feeding.{stretch, keptAll, fed-line, fed-rest}
-use Rattle.protocol.specs.Rows.{pendingOf}
-use Rattle.protocol.specs.Promises.{Took, largest, endText}
+use Rattle.lines.specs.Model.{Answered, Pending, part, long, ended, Fed, feed, atEnd, longest}
+use Rattle.lines.specs.Feeding.{stretch, keptAll, fed-line, fed-rest}
+use Rattle.lines.specs.Rows.{pendingOf}
+use Rattle.lines.specs.AnswerLines.{largest}
+use Rattle.protocol.specs.Promises.{Took, endText}
 use Rattle.protocol.specs.Reachable.{Reachable, feed-reachable}
 
 module _ (f : Farm) (r : Rest) (block : List ℕ) (from : ℕ) (entry : List ℕ) where

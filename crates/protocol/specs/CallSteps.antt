@@ -20,8 +20,8 @@ use Rattle.planner.specs.Calls.{Said}
 use Rattle.planner.specs.Clock.{moveSaid, moveLines}
 use Rattle.planner.specs.Calls.{said}
 use Rattle.planner.specs.ClockSteps.{Begins, MoveDecides, begins-few, begins-places, begins-sends, begins-lines, begins-count, move-taken}
-use Rattle.protocol.specs.Model.{answerText, chunkTexts, lent}
-use Rattle.protocol.specs.AnswerLines.{rowTexts, front-texts}
+use Rattle.lines.specs.Model.{answerText, chunkTexts, lent}
+use Rattle.lines.specs.AnswerLines.{rowTexts, front-texts}
 
 -- A move that issues no line prints its answer alone.
 pub clock-plain : (f : Farm) (t : ℕ) (s : Said) → moveLines f t lent ≡ [] → s ≡ moveSaid f t lent → answerText s ≡ chunkTexts (moveLines f t lent) ++ answerText (moveSaid f t lent)

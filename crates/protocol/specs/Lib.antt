@@ -1,11 +1,5 @@
--- What a reader must believe is Model; the other files show what follows from it.
-pub mod Model
-pub mod Feeding
-pub mod Rows
-pub mod JobLines
+-- What the functions promise each other and rely on; what a line is answered and what the bytes of a block come to is in the crate lines.
 pub mod Promises
 pub mod Reachable
-pub mod PendingLine
-pub mod AnswerLines
 pub mod CallSteps
 pub mod Blocks

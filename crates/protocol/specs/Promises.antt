@@ -8,13 +8,10 @@ use lib.ListN.{length}
 use Rattle.text.specs.Writing.{WroteWithin}
 use Rattle.protocol.specs.declared.Session.{Session}
 use Rattle.protocol.specs.declared.Progress.{Progress}
-use Rattle.protocol.specs.Model.{Fed, feed, atEnd}
-use Rattle.protocol.specs.Feeding.{stretch}
-use Rattle.protocol.specs.Rows.{pendingOf}
-
--- the largest answer: 1,024 chunk lines and a clock line, of at most 160 bytes each
-abbrev pub largest : ℕ
-largest = 164_000
+use Rattle.lines.specs.Model.{Fed, feed, atEnd}
+use Rattle.lines.specs.Feeding.{stretch}
+use Rattle.lines.specs.Rows.{pendingOf}
+use Rattle.lines.specs.AnswerLines.{largest}
 
 -- what bytes come to, fed to a day so far
 abbrev pub fedTo : Session → List ℕ → Fed

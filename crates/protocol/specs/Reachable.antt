@@ -20,7 +20,7 @@ use Rattle.text.specs.Model.{newline}
 use Rattle.reading.specs.declared.Kind.{Kind}
 use Rattle.reading.specs.declared.Kind.the-variants as kind
 use Rattle.reading.specs.Model.{lineKind, readable, numbersOf}
-use Rattle.protocol.specs.Model.{Answered, unread, costsIn, farmLine, offerIn, jobLine, lent, clockLine, accountLine, withdrawLine, inTurn, called, recorded, longest, answered, Pending, part, long, ended, kept, Fed, behind, feed}
+use Rattle.lines.specs.Model.{Answered, unread, costsIn, farmLine, offerIn, jobLine, lent, clockLine, accountLine, withdrawLine, inTurn, called, recorded, longest, answered, Pending, part, long, ended, kept, Fed, behind, feed}
 
 -- not opened, or reached by an opening and calls
 abbrev pub Reachable : Farm → Type 0

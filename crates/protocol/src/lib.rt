@@ -1,20 +1,12 @@
 // Text: the lines of a day and the answers that they get, fed in blocks. It knows farms and bytes, and neither reads nor writes a file.
-// What a line is answered and what the bytes of a block come to is in specs/Model.antt; what a whole day prints is in the crate printed.
-mod answer;
+// What a line is answered and what the bytes of a block come to is in the crate lines; what a whole day prints is in the crate printed.
 mod blocks;
-mod kept;
-mod step;
 
 pub use blocks::answer_block;
 pub use blocks::end_of_input;
 pub use blocks::start;
+use lines::Rest;
 use planner::Farm;
-
-// What has come of a line that has not ended: its first `fill` bytes. A fill above 1,024 says that it is too long.
-pub struct Rest {
-    pub fill: usize,
-    pub bytes: [u8; 1024],
-}
 
 // A day so far: the farm, and what has come of the next line.
 pub struct Session {

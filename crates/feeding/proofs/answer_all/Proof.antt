@@ -5,8 +5,8 @@ use mathlib.Core.Bool.{false≢true}
 use Prim.Native.Nat.{_≤_, _<_}
 use native.Mathlib.Omega.{arith}
 use lib.ListN.{length}
-use Rattle.protocol.specs.Feeding.{stretch}
-use Rattle.protocol.specs.Promises.{largest}
+use Rattle.lines.specs.Feeding.{stretch}
+use Rattle.lines.specs.AnswerLines.{largest}
 use Rattle.feeding.specs.Fed.{Leaves, leaves-reachable, fed-start, fed-more, took-some}
 use Rattle.feeding.proofs.answer_all.Statement.{statement}
 use Rattle.feeding.proofs.answer_all.Tie as tie

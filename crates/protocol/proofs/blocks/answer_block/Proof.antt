@@ -17,8 +17,8 @@ use Rattle.planner.specs.Model.{Sized}
 use Rattle.planner.specs.Passes.{passesOf}
 use Rattle.planner.specs.OfferSteps.{Decides}
 use Rattle.planner.specs.ClockSteps.{Begins, MoveDecides, move-refused, move-taken, none-due-yet}
-use Rattle.protocol.specs.Model.{Answered, answerText, inTurn, farmLine, jobLine, clockLine, accountLine, withdrawLine, called, lent}
-use Rattle.protocol.specs.Rows.{FarmRow, pendingOf, byRow, allowancesIn, rest-row, row-farm, row-turn, row-unread}
+use Rattle.lines.specs.Model.{Answered, answerText, inTurn, farmLine, jobLine, clockLine, accountLine, withdrawLine, called, lent}
+use Rattle.lines.specs.Rows.{FarmRow, pendingOf, byRow, allowancesIn, rest-row, row-farm, row-turn, row-unread}
 use Rattle.protocol.specs.Reachable.{Reachable, reachable-passes, reachable-sized}
 use Rattle.protocol.specs.CallSteps.{clock-plain, rows-asked, rows-fit, clock-text}
 use Rattle.protocol.specs.Blocks.{DayAt, day-start, day-reachable, day-took, day-rest, day-line}

@@ -1,0 +1,178 @@
+-- A line and its row of numbers: the row keeps 33 allowances, and an opening asks no more of them than of all.
+use mathlib.Core.Path.{_≡_, refl, ap, sym, _∙_}
+use mathlib.Core.List.{List, [], _∷_}
+use mathlib.Core.Bool.{Bool, true, false, cond, _&&_, and-false, false≢true}
+use Prim.Native.Nat.{ℕ, zero, suc, _-_, _≤_, _<_, min}
+use native.Mathlib.Omega.{arith}
+use borrow.Author.Tests.{leb-true, leb-false, le-leb, lt-leb}
+use lib.Dec.{leb}
+use lib.ListN.{length, getD, take, drop, replicate, length-take, length-map, getD-replicate}
+use lib.Seq.{take-all, take-nil, take-at, length-take-le}
+use Rattle.shares.specs.declared.Costs.{Costs}
+use Rattle.planner.specs.declared.Farm.{Farm}
+use Rattle.planner.specs.Calls.{openSaid, openFarm, showsWithin}
+use Rattle.text.specs.Model.{value, padded}
+use Rattle.reading.specs.declared.Row.{Row}
+use Rattle.reading.specs.declared.Kind.{Kind}
+use Rattle.reading.specs.declared.Kind.the-variants as kind
+use Rattle.reading.specs.Model.{fields, othersOf, fits, lineKind, readable, allNumbers, numbersOf, rowWith, rowOf}
+use Rattle.lines.specs.declared.Rest.{Rest}
+use Rattle.lines.specs.Model.{Answered, unread, farmLine, offerIn, jobLine, clockLine, accountLine, withdrawLine, inTurn, ifInTurn, called, recorded, answered, longest, Pending, part, long, ended}
+
+-- ---- Rows
+
+-- what is pending of a line, as the code keeps it
+abbrev pub pendingOf : Rest → Pending
+pendingOf r = cond (leb (r .fill) longest) (part (take (r .fill) (r .bytes))) long
+
+-- the row of a line that ends
+abbrev pub rowIn : Pending → Row
+rowIn (part l) = rowOf l
+rowIn long = rowWith kind.Unreadable []
+
+-- the allowances in a row
+abbrev pub allowancesIn : Row → List ℕ
+allowancesIn r = take (r .count - 5) (drop 5 (r .numbers))
+
+-- the call that a row in its turn is
+abbrev pub calledBy : Farm → Row → Answered
+calledBy f r = called f (r .kind) (r .count) (r .numbers) (allowancesIn r)
+
+-- the answer of a row
+unfoldable pub byRow : Farm → Row → Answered
+byRow f r = ifInTurn f (r .kind) (calledBy f r)
+
+-- the row of a farm has its nodes and costs
+abbrev pub FarmRow : Row → Type 0
+FarmRow r = r .kind ≡ kind.Farm → (5 ≤ r .count) × (r .count ≤ 38)
+
+-- ---- Lists
+
+drop-take : (m n : ℕ) (l : List ℕ) → drop m (take n l) ≡ take (n - m) (drop m l)
+drop-take zero n l = let e : n - 0 ≡ n = omega arith in rw e
+drop-take (suc m) zero l = let e : 0 - suc m ≡ 0 = omega arith in rw e
+drop-take (suc m) (suc n) [] = sym (take-nil (suc n - suc m))
+drop-take (suc m) (suc n) (x ∷ l) = let e : suc n - suc m ≡ n - m = omega arith in rw e (drop-take m n l)
+
+kept-at : (n : ℕ) (ns : List ℕ) (i : ℕ) → i < n → getD (padded n ns) i 0 ≡ getD ns i 0
+kept-at zero ns i h = absurd (omega arith)
+kept-at (suc n) [] i h = let e : suc n - 0 ≡ suc n = omega arith in rw e (getD-replicate (suc n) i 0 0 h)
+kept-at (suc n) (x ∷ ns) zero h = refl
+kept-at (suc n) (x ∷ ns) (suc i) h = let e : suc n - suc (length ns) ≡ n - length ns = omega arith in rw e (kept-at n ns i (omega arith))
+
+kept-front : (n : ℕ) (ns : List ℕ) → take (min n (length ns)) (padded n ns) ≡ take n ns
+kept-front n ns = take-at (take n ns) (replicate (n - length ns) 0) (min n (length ns)) (length-take n ns)
+
+-- ---- Over 32 allowances
+
+many-shows : (al : List ℕ) → 32 < length al → showsWithin al ≡ false
+many-shows al h = rw (le-leb 1 (length al) (omega arith), lt-leb (length al) 32 h)
+
+shows-33 : (al : List ℕ) (P : List ℕ → List ℕ → Type 0) → (P al al) → (33 < length al → P (take 33 al) al) → P (take 33 al) al
+shows-33 al P h k = go (leb (length al) 33) refl
+  where
+    go : (t : Bool) → leb (length al) 33 ≡ t → P (take 33 al) al
+    go true e = rw (take-all 33 al (leb-true (length al) 33 e)) h
+    go false e = k (leb-false (length al) 33 e)
+
+-- An opening asks the same of the first 33 allowances as of all.
+pub open-33 : (n : ℕ) (c : Costs) (al : List ℕ) → openSaid n c (take 33 al) ≡ openSaid n c al
+unfolding openSaid
+open-33 n c al =
+    shows-33 al (λ (x y : List ℕ). openSaid n c x ≡ openSaid n c y) refl
+    (λ h. rw (many-shows al (omega arith), many-shows (take 33 al) (omega (arith, length-take-le 33 al (omega arith)))))
+
+pub open-farm-33 : (n : ℕ) (c : Costs) (al : List ℕ) → openFarm n c (take 33 al) ≡ openFarm n c al
+unfolding openFarm
+open-farm-33 n c al =
+    shows-33 al (λ (x y : List ℕ). openFarm n c x ≡ openFarm n c y) refl
+    (λ h. rw (many-shows al (omega arith), many-shows (take 33 al) (omega (arith, length-take-le 33 al (omega arith))), and-false))
+
+-- ---- The answer of a row is the answer of its line
+
+few-same : (m n : ℕ) → 3 < m → leb (min m n) 3 ≡ leb n 3
+few-same m n h = go (leb n 3) refl
+  where
+    go : (t : Bool) → leb n 3 ≡ t → leb (min m n) 3 ≡ t
+    go true e = le-leb (min m n) 3 (omega (arith, leb-true n 3 e))
+    go false e = lt-leb (min m n) 3 (omega (arith, leb-false n 3 e))
+
+offer-same : (ns : List ℕ) → offerIn (min 38 (length ns)) (padded 38 ns) ≡ offerIn (length ns) ns
+offer-same ns =
+    rw (few-same 38 (length ns) (omega arith), kept-at 38 ns 0 (omega arith), kept-at 38 ns 1 (omega arith), kept-at 38 ns 2 (omega arith), kept-at 38 ns 3 (omega arith))
+
+row-allowances : (k : Kind) (ns : List ℕ) → allowancesIn (rowWith k ns) ≡ take 33 (drop 5 ns)
+row-allowances k ns =
+    sym (drop-take 5 (min 38 (length ns)) (padded 38 ns)) ∙ ap (drop 5) (kept-front 38 ns) ∙ drop-take 5 38 ns
+
+farm-same : (k : Kind) (ns : List ℕ) → farmLine (padded 38 ns) (allowancesIn (rowWith k ns)) ≡ farmLine ns (drop 5 ns)
+unfolding farmLine
+farm-same k ns =
+    rw (row-allowances k ns, kept-at 38 ns 0 (omega arith), kept-at 38 ns 1 (omega arith), kept-at 38 ns 2 (omega arith), kept-at 38 ns 3 (omega arith), kept-at 38 ns 4 (omega arith), open-33, open-farm-33)
+
+row-called : (f : Farm) (k : Kind) (ns : List ℕ) → calledBy f (rowWith k ns) ≡ called f k (length ns) ns (drop 5 ns)
+unfolding called
+row-called f kind.Farm ns = farm-same kind.Farm ns
+row-called f kind.Job ns = ap (jobLine f) (offer-same ns)
+row-called f kind.Clock ns = ap (clockLine f) (kept-at 38 ns 0 (omega arith))
+row-called f kind.Account ns = ap (accountLine f) (kept-at 38 ns 0 (omega arith))
+row-called f kind.Withdraw ns = ap (withdrawLine f) (kept-at 38 ns 0 (omega arith))
+row-called f kind.Unreadable ns = refl
+
+pub row-recorded : (f : Farm) (k : Kind) (ns : List ℕ) → byRow f (rowWith k ns) ≡ recorded f k ns
+unfolding byRow recorded
+row-recorded f k ns = rw (row-called f k ns)
+
+no-row : (f : Farm) → byRow f (rowWith kind.Unreadable []) ≡ unread f
+unfolding byRow
+no-row f = refl
+
+-- A line is answered as its row is.
+pub line-row : (f : Farm) (l : List ℕ) → length l ≤ longest → answered f l ≡ byRow f (rowOf l)
+unfolding answered rowOf
+line-row f l h = rw (le-leb (length l) longest h) (go (readable l))
+  where
+    go : (t : Bool) → cond t (recorded f (lineKind l) (numbersOf l)) (unread f) ≡ byRow f (cond t (rowWith (lineKind l) (numbersOf l)) (rowWith kind.Unreadable []))
+    go true = sym (row-recorded f (lineKind l) (numbersOf l))
+    go false = sym (no-row f)
+
+-- So is what the code keeps of a line.
+pub rest-row : (f : Farm) (r : Rest) → ended f (pendingOf r) ≡ byRow f (rowIn (pendingOf r))
+rest-row f r = go (leb (r .fill) longest) refl
+  where
+    go : (t : Bool) → leb (r .fill) longest ≡ t → ended f (cond t (part (take (r .fill) (r .bytes))) long) ≡ byRow f (rowIn (cond t (part (take (r .fill) (r .bytes))) long))
+    go true e = line-row f (take (r .fill) (r .bytes)) (omega (arith, leb-true (r .fill) longest e, length-take (r .fill) (r .bytes)))
+    go false e = sym (no-row f)
+
+five : (k : Kind) (n : ℕ) (b : Bool) → k ≡ kind.Farm → (fits k n && b) ≡ true → 5 ≤ n
+five k n b e h = go (leb 5 n) refl (rw e at h)
+  where
+    go : (t : Bool) → leb 5 n ≡ t → (t && b) ≡ true → 5 ≤ n
+    go true q h = leb-true 5 n q
+    go false q h = absurd (false≢true h)
+
+unreadable-farm : kind.Unreadable ≡ kind.Farm → ⊥
+unreadable-farm e = let z : _≡_ {A = ℕ} 0 1 = cc in omega arith
+
+-- The row of a line that is a farm has at least its nodes and costs.
+pub row-farm : (p : Pending) → FarmRow (rowIn p)
+unfolding rowOf readable
+row-farm long e = absurd (unreadable-farm e)
+row-farm (part l) e = go (readable l) refl e
+  where
+    go : (t : Bool) → readable l ≡ t → cond t (rowWith (lineKind l) (numbersOf l)) (rowWith kind.Unreadable []) .kind ≡ kind.Farm
+        → (5 ≤ cond t (rowWith (lineKind l) (numbersOf l)) (rowWith kind.Unreadable []) .count) × (cond t (rowWith (lineKind l) (numbersOf l)) (rowWith kind.Unreadable []) .count ≤ 38)
+    go true e k = let n = five (lineKind l) (length (othersOf (fields l))) (allNumbers (othersOf (fields l))) k e in let m = length-map (othersOf (fields l)) value in (omega arith, omega arith)
+    go false e k = absurd (unreadable-farm k)
+
+-- ---- In its turn, and out of it
+
+module _ (f : Farm) (r : Row) where
+  pub row-turn : inTurn (r .kind) (f .opened) ≡ true → byRow f r ≡ calledBy f r
+  unfolding byRow
+  row-turn e = rw e
+
+  -- out of its turn
+  pub row-unread : inTurn (r .kind) (f .opened) ≡ false → byRow f r ≡ unread f
+  unfolding byRow
+  row-unread e = rw e
