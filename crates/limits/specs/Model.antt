@@ -5,6 +5,10 @@ use mathlib.Core.Bool.{Bool, true, _&&_}
 use lib.Dec.{leb}
 use Rattle.shares.specs.declared.Costs.{Costs}
 
+-- the greatest tick, allowance and count of job numbers
+abbrev pub greatest : ℕ
+greatest = 1_000_000_000_000
+
 -- ---- The tests
 
 -- whether x is from a to b

@@ -2,9 +2,9 @@
 // What each test means is in specs/Model.antt.
 ghost use mathlib.Core.Bool.{_&&_};
 ghost use mathlib.Core.Path.{_≡_};
-ghost use lib.Dec.{leb};
+ghost use lib.Dec.{leb, ltb};
 ghost use lib.ListN.{take};
-ghost use Rattle.limits.specs.Model.{between, allAtMost, costsWithin};
+ghost use Rattle.limits.specs.Model.{greatest, between, allAtMost, costsWithin};
 use numbers::least;
 use shares::Costs;
 
@@ -56,4 +56,24 @@ pub fn costs_within(costs: Costs) -> bool
         and(units, at_most(costs.linksetup, 1_000_000)),
         at_most(costs.nodesetup, 1_000_000),
     )
+}
+
+// Whether a deadline is after the clock and within the time range.
+pub fn deadline_within(clock: u64, deadline: u64) -> bool
+    ensures { λ r. ⌜ r ≡ (ltb clock deadline && leb deadline greatest) ⌝ }
+{
+    if deadline <= clock {
+        return false;
+    }
+    deadline <= 1000000000000
+}
+
+// Whether fewer than 128 jobs wait and a job number is left.
+pub fn place_left(waiting: usize, used: u64) -> bool
+    ensures { λ r. ⌜ r ≡ (ltb waiting 128 && ltb used greatest) ⌝ }
+{
+    if 128 <= waiting {
+        return false;
+    }
+    used < 1000000000000
 }

@@ -4,7 +4,6 @@ ghost use mathlib.Core.Path.{_≡_};
 ghost use Prim.Native.Nat.{_-_, _≤_};
 ghost use mathlib.Core.List.{[], _∷_, _++_};
 ghost use lib.ListN.{length, getD, replicate};
-ghost use Rattle.planner.specs.Model.{emptyJob};
 ghost use Rattle.planner.specs.Passes.{passesOf};
 ghost use Rattle.planner.specs.Calls.{Account, said, granted, Replies, unopened, openSaid, openFarm, accountSaid};
 use crate::Answer;
@@ -12,33 +11,12 @@ use crate::Farm;
 use crate::Question;
 use crate::Reply;
 use crate::passing::passes;
-use booking::Booking;
 use limits::all_at_most;
 use limits::between;
 use limits::costs_within;
 use numbers::less;
+use queue::empty_job;
 use shares::Costs;
-use walk::Job;
-
-// The empty job, which the array of waiting jobs is filled with.
-pub fn empty_job() -> Job
-    ensures { λ r. ⌜ r ≡ emptyJob ⌝ }
-{
-    let booking = Booking {
-        start: 0,
-        count: 0,
-        nodes: [0; 64],
-        shares: [0; 64],
-    };
-    Job {
-        number: 0,
-        show: 0,
-        size: 0,
-        compute: 0,
-        deadline: 0,
-        booking,
-    }
-}
 
 // The unopened farm, the same one each time.
 fn unopened_farm() -> Farm

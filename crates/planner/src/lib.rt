@@ -4,7 +4,6 @@ mod calls;
 mod clock;
 mod offers;
 mod passing;
-mod table;
 mod withdraw;
 
 use shares::Costs;

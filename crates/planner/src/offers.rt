@@ -1,9 +1,7 @@
 // An offer: its questions, the walk of the waiting jobs and the new one, and what it is told.
 ghost use mathlib.Core.Bool.{true};
-ghost use mathlib.Core.List.{[]};
 ghost use mathlib.Core.Path.{_≡_};
 ghost use Prim.Native.Nat.{_+_};
-ghost use Rattle.booking.specs.Model.{bookingOf};
 ghost use Rattle.walk.specs.Chunks.{Sends};
 ghost use Rattle.planner.specs.Passes.{passesOf};
 ghost use Rattle.planner.specs.Calls.{said, Replies, computeOr, computeOf, yesOf, offerAsked, offerSaid, offerFarm};
@@ -16,12 +14,12 @@ use crate::Farm;
 use crate::Offer;
 use crate::Question;
 use crate::Reply;
-use crate::calls::empty_job;
 use crate::calls::refused;
 use crate::passing::passes;
-use crate::table::deadline_within;
-use crate::table::place_left;
 use limits::between;
+use limits::deadline_within;
+use limits::place_left;
+use queue::new_job;
 use shares::Costs;
 use walk::Busy;
 use walk::Job;
@@ -43,19 +41,6 @@ fn compute_or(farms: u64, cost: ComputeCost) -> u64
         ComputeCost::Absent => farms,
         ComputeCost::Given(own) => own,
     }
-}
-
-// The job that is offered, not booked yet.
-fn new_job(number: u64, show: u64, size: u32, compute: u32, deadline: u64) -> Job
-    ensures { λ r. ⌜ r ≡ record { number = number; show = show; size = size; compute = compute; deadline = deadline; booking = bookingOf 0 [] [] } ⌝ }
-{
-    let mut job = empty_job();
-    job.number = number;
-    job.show = show;
-    job.size = size;
-    job.compute = compute;
-    job.deadline = deadline;
-    job
 }
 
 // The answer to an accepted offer.

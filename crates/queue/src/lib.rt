@@ -1,10 +1,47 @@
-// The row of waiting jobs: where a number stands in it, and the row without it. It knows jobs, and no farm.
+// Waiting jobs: a new one, where a number stands in a row of them, and the row without it. It knows jobs, and no farm.
 // What the functions mean is in specs/Model.antt, and what they promise by place in specs/Steps.antt.
+ghost use mathlib.Core.List.{[]};
 ghost use mathlib.Core.Path.{_≡_};
 ghost use Prim.Native.Nat.{_≤_, _<_};
 ghost use lib.ListN.{take};
+ghost use Rattle.booking.specs.Model.{bookingOf};
+ghost use Rattle.walk.specs.Model.{emptyJob};
 ghost use Rattle.queue.specs.Steps.{placeOf, closedUp};
+use booking::Booking;
 use walk::Job;
+
+// The empty job, which the array of waiting jobs is filled with.
+pub fn empty_job() -> Job
+    ensures { λ r. ⌜ r ≡ emptyJob ⌝ }
+{
+    let booking = Booking {
+        start: 0,
+        count: 0,
+        nodes: [0; 64],
+        shares: [0; 64],
+    };
+    Job {
+        number: 0,
+        show: 0,
+        size: 0,
+        compute: 0,
+        deadline: 0,
+        booking,
+    }
+}
+
+// The job that is offered, not booked yet.
+pub fn new_job(number: u64, show: u64, size: u32, compute: u32, deadline: u64) -> Job
+    ensures { λ r. ⌜ r ≡ record { number = number; show = show; size = size; compute = compute; deadline = deadline; booking = bookingOf 0 [] [] } ⌝ }
+{
+    let mut job = empty_job();
+    job.number = number;
+    job.show = show;
+    job.size = size;
+    job.compute = compute;
+    job.deadline = deadline;
+    job
+}
 
 // Where the job of a number stands among the first `count` jobs; `count` where none of them has it.
 pub fn place_of(jobs: [Job; 128], count: usize, number: u64) -> usize

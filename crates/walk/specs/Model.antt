@@ -1,5 +1,5 @@
 -- The deadline walk, in the words and the order of document 01. Everything here is a definition; nothing is assumed.
-pub use Rattle.limits.specs.Model.{Between}
+pub use Rattle.limits.specs.Model.{greatest, Between}
 use Prim.Native.Nat.{ℕ, suc, _+_, _-_, _≤_, _<_, max}
 use mathlib.Core.Path.{_≡_}
 use mathlib.Core.List.{List, [], _∷_, _++_, map}
@@ -20,10 +20,6 @@ use Rattle.walk.specs.declared.Busy.{Busy}
 use Rattle.walk.specs.declared.Chunk.{Chunk}
 use Rattle.walk.specs.declared.Time.{Time}
 use Rattle.walk.specs.declared.Time.the-variants.{Deadline, Start}
-
--- the greatest tick, allowance and count of job numbers
-abbrev pub greatest : ℕ
-greatest = 1_000_000_000_000
 
 -- ---- Jobs and chunks
 

@@ -2,9 +2,6 @@
 use borrow.Author.Needs.{needs}
 use Rattle.planner.proofs.calls.unopened_farm.Statement.{statement}
 use Rattle.planner.proofs.calls.unopened_farm.Tie as tie
-use Rattle.planner.proofs.calls.unopened_farm.Reads as reads
-use Rattle.planner.proofs.calls.unopened_farm.Lts as lts
-use Rattle.planner.proofs.calls.empty_job.Reads as empty-job-reads
 
 empty-job-requires : tie.Need-empty-job-requires
 empty-job-requires c κs = search needs

@@ -1,7 +1,7 @@
--- `planner::offers::new_job` meets its contract.
+-- `queue::new_job` meets its contract.
 use borrow.Author.Needs.{needs}
-use Rattle.planner.proofs.offers.new_job.Statement.{statement}
-use Rattle.planner.proofs.offers.new_job.Tie as tie
+use Rattle.queue.proofs.new_job.Statement.{statement}
+use Rattle.queue.proofs.new_job.Tie as tie
 
 empty-job-requires : tie.Need-empty-job-requires
 empty-job-requires c κs = search needs

@@ -1,7 +1,7 @@
--- `planner::table::deadline_within` meets its contract.
+-- `limits::deadline_within` meets its contract.
 use borrow.Author.Tests.{le-ltb, lt-ltb}
-use Rattle.planner.proofs.table.deadline_within.Statement.{statement}
-use Rattle.planner.proofs.table.deadline_within.Tie as tie
+use Rattle.limits.proofs.deadline_within.Statement.{statement}
+use Rattle.limits.proofs.deadline_within.Tie as tie
 
 returns : tie.Need-returns
 returns c = rw (le-ltb (c .before .args .clock) (c .before .args .deadline) (c .if1 .taken))

@@ -1,7 +1,7 @@
--- `planner::table::place_left` meets its contract.
+-- `limits::place_left` meets its contract.
 use borrow.Author.Tests.{le-ltb, lt-ltb}
-use Rattle.planner.proofs.table.place_left.Statement.{statement}
-use Rattle.planner.proofs.table.place_left.Tie as tie
+use Rattle.limits.proofs.place_left.Statement.{statement}
+use Rattle.limits.proofs.place_left.Tie as tie
 
 returns : tie.Need-returns
 returns c = rw (le-ltb (c .before .args .waiting) 128 (c .if1 .taken))
