@@ -1,5 +1,5 @@
 -- What a whole input prints: the answers of its lines. Everything here is a definition; nothing is assumed. What one line is answered is in the
--- crate protocol.
+-- crate lines.
 use Prim.Native.Nat.{ℕ}
 use mathlib.Core.List.{List, [], _∷_, _++_}
 use mathlib.Core.Bool.{cond}

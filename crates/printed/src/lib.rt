@@ -1,1 +1,1 @@
-// What a whole day prints, in theorems above the crate protocol: specs/ only, and nothing that runs.
+// What a whole day prints, in theorems above the crates lines and demands: specs/ only, and nothing that runs.
