@@ -52,6 +52,8 @@ struct Day {
     mixed: bool,
     /// Some jobs are withdrawn: in half of the days of each kind.
     withdrawing: bool,
+    /// Audio takes time to come back.
+    returning: bool,
     /// So small that the exhaustive walk can run it.
     tiny: bool,
 }
@@ -84,6 +86,7 @@ impl Day {
         Day {
             mixed: !random.once_in(4),
             withdrawing: seed / KINDS % 2 == 1,
+            returning: !random.once_in(5),
             tiny: false,
             random,
             bytes: Vec::new(),
@@ -170,6 +173,12 @@ impl Day {
     fn farm_compute(&self) -> u64 {
         self.session.farm().map_or(9, |farm| farm.costs().compute)
     }
+
+    /// The farm's r, 0 before there is a farm.
+    fn farm_return(&self) -> u64 {
+        let farm = self.session.farm();
+        farm.map_or(0, |farm| farm.costs().return_cost)
+    }
 }
 
 impl Offer {
@@ -217,12 +226,17 @@ impl Day {
     /// Few nodes, small numbers, many equal deadlines and free times.
     fn tiny(&mut self) {
         self.tiny = true;
+        if self.random.once_in(8) {
+            self.wrong_opening();
+        }
+        let return_cost = self.tiny_return();
         let r = &mut self.random;
         let costs = Costs {
             send: r.between(1, 3),
             compute: r.between(1, 4),
             link_setup: r.pick(&[0, 0, 1, 2]),
             node_setup: r.pick(&[0, 0, 1, 3]),
+            return_cost,
         };
         let nodes = r.between(1, 4);
         let allowances: Vec<u64> = (0..r.between(1, 3)).map(|_| r.between(0, 40)).collect();
@@ -234,7 +248,10 @@ impl Day {
             }
             let show = self.some_show();
             let r = &mut self.random;
-            let (size, tens, any) = (r.between(1, 7), r.between(1, 4), r.between(2, 40));
+            // A job waits longer where its audio takes longer to come back.
+            let most_tens = 4 + return_cost;
+            let (size, tens) = (r.between(1, 7), r.between(1, most_tens));
+            let any = r.between(2, 10 * most_tens);
             let wait = r.pick(&[10 * tens, 10 * tens, any]);
             let deadline = self.clock() / 10 * 10 + wait;
             let compute = self.tiny_compute();
@@ -277,11 +294,15 @@ impl Day {
         let (nodes, costs, allowances) = self.opening_near_limits();
         self.open(nodes, costs, &allowances);
         if self.session.farm().is_none() {
-            self.open(
-                64,
-                Costs::new(10_000, 1_000_000, 1_000_000, 1_000_000),
-                &[0],
-            );
+            let return_cost = self.if_returning(MOST_RETURN_COST);
+            let greatest = Costs {
+                send: MOST_SEND_COST,
+                compute: MOST_COMPUTE_COST,
+                link_setup: MOST_SETUP,
+                node_setup: MOST_SETUP,
+                return_cost,
+            };
+            self.open(64, greatest, &[0]);
         }
         for _ in 0..self.random.between(10, 60) {
             if self.withdraws_once_in(5) {
@@ -347,9 +368,16 @@ impl Day {
     /// issue can be counted beforehand: about 1,024. A withdrawal takes some of
     /// them away.
     fn full_timetable(&mut self) {
+        let return_cost = self.some_return(10_000);
         let r = &mut self.random;
         let nodes = r.pick(&[64, 63, 50, 32, 16, 9, 8]);
-        let costs = Costs::new(r.between(1, 3), 10_000, r.between(0, 3), r.between(0, 50));
+        let costs = Costs {
+            send: r.between(1, 3),
+            compute: 10_000,
+            link_setup: r.between(0, 3),
+            node_setup: r.between(0, 50),
+            return_cost,
+        };
         let lines = r.pick(&[1_023, 1_024, 1_024, 1_025, 1_025, 1_100]);
         self.open(nodes, costs, &[0, LAST_TICK]);
         let mut deadline = 0;
@@ -359,8 +387,11 @@ impl Day {
             left -= size;
             let own = self.random.between(5_000, 20_000);
             let compute = self.in_half(own);
-            deadline += size * (costs.link_setup + costs.send) + costs.node_setup;
-            deadline += compute.unwrap_or(costs.compute);
+            let own_costs = Costs {
+                compute: compute.unwrap_or(costs.compute),
+                ..costs
+            };
+            deadline = own_costs.finish(deadline + size * costs.send_ticks(1), 1);
             let show = self.some_show();
             self.job_at(show, size, deadline, compute);
         }
@@ -385,6 +416,9 @@ impl Day {
 
     /// A middling day in which nearly every other line is damaged.
     fn damaged(&mut self) {
+        if self.returning && self.random.once_in(2) {
+            self.odd_return();
+        }
         let nodes = self.random.between(1, 64);
         self.open_middling(nodes);
         for _ in 0..self.random.between(10, 60) {
@@ -407,6 +441,9 @@ impl Day {
             self.open(nodes, costs, &allowances);
             if self.random.once_in(3) {
                 self.stray();
+            }
+            if self.random.once_in(3) {
+                self.wrong_opening();
             }
         }
         let nodes = self.random.between(1, 8);
@@ -435,12 +472,15 @@ impl Day {
 impl Day {
     fn open_middling(&mut self, nodes: u64) {
         let r = &mut self.random;
-        let costs = Costs {
+        let mut costs = Costs {
             send: r.of_any_length(40).max(1),
             compute: r.of_any_length(500).max(1),
             link_setup: r.of_any_length(60),
             node_setup: r.of_any_length(300),
+            return_cost: 0,
         };
+        costs.return_cost = self.some_return(costs.compute);
+        let r = &mut self.random;
         let shows = r.between(1, 32);
         let allowances: Vec<u64> = (0..shows).map(|_| r.of_any_length(100_000)).collect();
         self.open(nodes, costs, &allowances);
@@ -451,10 +491,11 @@ impl Day {
             return self.withdrawal();
         }
         let show = self.some_show();
+        let ticks_a_unit = 300 + self.farm_return();
         let r = &mut self.random;
         let size = r.of_any_length(600).max(1);
         let used = r.between(1, nodes);
-        let wait = r.between(1, 1 + size * 300 / used);
+        let wait = r.between(1, 1 + size * ticks_a_unit / used);
         let backlog = self.starts().last().map_or(0, |start| start - self.clock());
         match self.random.between(0, 19) {
             0..=5 => self.job(show, size, self.clock() + wait),
@@ -544,7 +585,7 @@ impl Day {
             6 => self.clock_to(wrong_time),
             7 => self.clock_to(clock),
             8 => self.line(b"account", &[wrong_show]),
-            9 => self.open(1, Costs::new(1, 1, 0, 0), &[1]),
+            9 => self.open(1, Costs::new(1, 1, 0, 0, 0), &[1]),
             10 => self.raw(b""),
             _ => self.damaged_line(),
         }
@@ -570,10 +611,10 @@ impl Day {
         self.job_at(show, size, deadline, compute);
     }
 
-    /// Of four figures one, two, three or all.
-    fn which_wrong(&mut self) -> [bool; 4] {
-        let wrong = self.random.between(1, 15);
-        [1, 2, 4, 8].map(|figure| wrong & figure != 0)
+    /// Of so many figures at least one.
+    fn which_wrong<const FIGURES: usize>(&mut self) -> [bool; FIGURES] {
+        let wrong = self.random.between(1, (1 << FIGURES) - 1);
+        std::array::from_fn(|figure| wrong >> figure & 1 == 1)
     }
 
     fn wrong_show(&mut self) -> u64 {
@@ -594,9 +635,7 @@ impl Day {
     fn before_opening(&mut self) {
         for _ in 0..self.random.between(1, 5) {
             match self.random.between(0, 6) {
-                0 => self.open(0, Costs::new(0, 1, 0, 0), &[]),
-                1 => self.open(1, Costs::new(1, 1, MOST_SETUP + 1, 0), &[]),
-                2 => self.open(64, Costs::new(1, 1, 0, 0), &[1; 33]),
+                0..=2 => self.wrong_opening(),
                 3 => self.damaged_line(),
                 4 | 5 => {
                     let line = self.long_line();
@@ -607,12 +646,52 @@ impl Day {
         }
     }
 
+    /// One figure wrong or several, so that the order of the questions shows; at
+    /// times five numbers are all there is, which is another shape.
+    fn wrong_opening(&mut self) {
+        let [wrong_nodes, wrong_cost, wrong_shows] = self.which_wrong();
+        let mut nodes = self.random.between(1, MOST_NODES as u64);
+        let mut costs = Costs::new(1, 1, 0, 0, MOST_RETURN_COST);
+        let mut shows = self.random.pick(&[1, MOST_SHOWS]);
+        if wrong_nodes {
+            nodes = self.random.pick(&[0, MOST_NODES as u64 + 1, LONGEST]);
+        }
+        if wrong_cost {
+            costs = self.with_a_wrong_cost(costs);
+        }
+        if wrong_shows {
+            shows = self.random.pick(&[0, 0, MOST_SHOWS + 1, MOST_SHOWS + 2, 400]);
+        }
+        let mut numbers = farm_numbers(nodes, costs, &vec![7; shows]);
+        if self.random.once_in(5) {
+            numbers.truncate(5);
+        }
+        self.line(b"farm", &numbers);
+    }
+
+    /// Mostly it is r that is beyond its limit.
+    fn with_a_wrong_cost(&mut self, mut costs: Costs) -> Costs {
+        let wrong_compute = self.wrong_compute();
+        let r = &mut self.random;
+        let beyond = MOST_RETURN_COST + 1;
+        match r.between(0, 7) {
+            0 => costs.send = r.pick(&[0, MOST_SEND_COST + 1, LONGEST]),
+            1 => costs.compute = wrong_compute,
+            2 => costs.link_setup = MOST_SETUP + 1,
+            3 => costs.node_setup = MOST_SETUP + 1,
+            _ => costs.return_cost = r.pick(&[beyond, beyond, beyond + 1, MOST_SETUP, LONGEST]),
+        }
+        costs
+    }
+
     fn opening_near_limits(&mut self) -> (u64, Costs, Vec<u64>) {
+        let return_cost = self.near(1, MOST_RETURN_COST);
         let costs = Costs {
             send: self.near(1, MOST_SEND_COST),
             compute: self.near(1, MOST_COMPUTE_COST),
             link_setup: self.near(0, MOST_SETUP),
             node_setup: self.near(0, MOST_SETUP),
+            return_cost: self.if_returning(return_cost),
         };
         let nodes = self.near(1, MOST_NODES as u64);
         let shows = self.near(1, MOST_SHOWS as u64);
@@ -682,6 +761,42 @@ impl Day {
     fn compute_near_limits(&mut self) -> Option<u64> {
         let compute = self.near(1, MOST_COMPUTE_COST);
         self.in_half(compute)
+    }
+}
+
+// Return costs.
+impl Day {
+    /// r is 0 on the other days.
+    fn if_returning(&self, return_cost: u64) -> u64 {
+        if self.returning {
+            return_cost
+        } else {
+            0
+        }
+    }
+
+    /// Mostly one that can be compared with the farm's p.
+    fn some_return(&mut self, compute: u64) -> u64 {
+        let r = &mut self.random;
+        let return_cost = match r.between(0, 9) {
+            0..=3 => r.between(1, 40),
+            4..=6 => r.between(1, 2 * compute),
+            7 => compute,
+            8 => r.of_any_length(MOST_RETURN_COST).max(1),
+            _ => r.pick(&[1, MOST_RETURN_COST, MOST_RETURN_COST - 1]),
+        };
+        self.if_returning(return_cost.min(MOST_RETURN_COST))
+    }
+
+    /// So small that the exhaustive walk can wait for the job's end.
+    fn tiny_return(&mut self) -> u64 {
+        let r = &mut self.random;
+        let return_cost = match r.between(0, 15) {
+            0 => r.between(13, 30),
+            1 | 2 => r.between(5, 12),
+            _ => r.between(1, 4),
+        };
+        self.if_returning(return_cost)
     }
 }
 
@@ -883,6 +998,15 @@ impl Day {
         self.raw(&line);
     }
 
+    /// Whatever may stand in the place of r; some of it can be read.
+    fn odd_return(&mut self) {
+        let odd = self.random.pick(&[
+            "", "\t", " ", "7 ", " 7", "7\r", "+7", "-0", "7.0", "r", "007", "0000000010000",
+            "0000000010001", "00000000000007", "10000000000000",
+        ]);
+        self.raw(format!("farm\t2\t3\t40\t5\t60\t{odd}\t800\t900").as_bytes());
+    }
+
     /// Whatever may stand around the number of a job, a waiting one if there is
     /// any, so that reading it wrongly takes that job away.
     fn odd_withdrawal(&mut self) {
@@ -934,7 +1058,7 @@ impl Day {
         let compute = self.some_compute();
         let time = self.clock() + self.random.between(0, 3);
         match self.random.between(0, 3) {
-            0 => farm_line(2, Costs::new(1, 2, 3, 4), &[5, 6]),
+            0 => farm_line(2, Costs::new(1, 2, 3, 4, 5), &[6, 7]),
             1 => job_line(show, 1 + time % 9, time + 1_000, compute),
             2 => line(b"clock", &[time]),
             _ => line(b"account", &[show]),
@@ -967,7 +1091,7 @@ impl Day {
         let length = r.pick(&[
             1_022, 1_023, 1_024, 1_024, 1_025, 1_025, 1_026, 3_000, 70_000,
         ]);
-        let mut line = farm_line(2, Costs::new(1, 2, 0, 0), &[5]);
+        let mut line = farm_line(2, Costs::new(1, 2, 0, 0, 0), &[5]);
         match r.between(0, 3) {
             0 => line.resize(length, b'\t'),
             1 => line.resize(length, b'9'),
@@ -1009,9 +1133,18 @@ fn job_line(show: u64, size: u64, deadline: u64, compute: Option<u64>) -> Vec<u8
 }
 
 fn farm_line(nodes: u64, costs: Costs, allowances: &[u64]) -> Vec<u8> {
-    let setups = [costs.link_setup, costs.node_setup];
-    let numbers = [&[nodes, costs.send, costs.compute], &setups[..], allowances].concat();
-    line(b"farm", &numbers)
+    line(b"farm", &farm_numbers(nodes, costs, allowances))
+}
+
+fn farm_numbers(nodes: u64, costs: Costs, allowances: &[u64]) -> Vec<u64> {
+    let costs = [
+        costs.send,
+        costs.compute,
+        costs.link_setup,
+        costs.node_setup,
+        costs.return_cost,
+    ];
+    [&[nodes], &costs[..], allowances].concat()
 }
 
 /// Leads the number at or before a place with zeros up to a number of digits.

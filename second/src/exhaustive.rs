@@ -121,10 +121,9 @@ impl Course {
 
 /// Send end and chunk finish of each share, sends back to back.
 fn spans(costs: Costs, start: u64, shares: &[u64]) -> impl Iterator<Item = (u64, u64)> + '_ {
-    shares.iter().scan(start, move |send_end, units| {
-        *send_end += costs.link_setup + units * costs.send;
-        let finish = *send_end + costs.node_setup + units * costs.compute;
-        Some((*send_end, finish))
+    shares.iter().scan(start, move |send_end, &units| {
+        *send_end += costs.send_ticks(units);
+        Some((*send_end, costs.finish(*send_end, units)))
     })
 }
 

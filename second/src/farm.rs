@@ -57,7 +57,8 @@ impl<W: Walk> Farm<W> {
         let costs_within = (1..=MOST_SEND_COST).contains(&costs.send)
             && (1..=MOST_COMPUTE_COST).contains(&costs.compute)
             && costs.link_setup <= MOST_SETUP
-            && costs.node_setup <= MOST_SETUP;
+            && costs.node_setup <= MOST_SETUP
+            && costs.return_cost <= MOST_RETURN_COST;
         ask(costs_within, Refusal::Costs)?;
         let shows_within = (1..=MOST_SHOWS).contains(&allowances.len())
             && allowances.iter().all(|&ticks| ticks <= LAST_TICK);

@@ -6,6 +6,7 @@ pub const MOST_NODES: usize = 64;
 pub const MOST_SEND_COST: u64 = 10_000;
 pub const MOST_COMPUTE_COST: u64 = 1_000_000;
 pub const MOST_SETUP: u64 = 1_000_000;
+pub const MOST_RETURN_COST: u64 = 10_000;
 pub const MOST_SHOWS: usize = 32;
 pub const MOST_UNITS: u64 = 1_000_000;
 pub const MOST_WAITING: usize = 128;

@@ -49,8 +49,8 @@ impl<W: Walk> Session<W> {
         let kind = text::read_line(line, &mut self.numbers).ok_or(Refusal::Unreadable)?;
         let answers = &mut self.answers;
         match (kind, &self.numbers[..], &mut self.farm) {
-            (b"farm", &[nodes, m, p, st, sc, ref allowances @ ..], None) => {
-                let farm = Farm::open(nodes, Costs::new(m, p, st, sc), allowances)?;
+            (b"farm", &[nodes, m, p, st, sc, r, ref allowances @ ..], None) => {
+                let farm = Farm::open(nodes, Costs::new(m, p, st, sc, r), allowances)?;
                 text::print(answers, b"open", &[nodes, farm.show_count()]);
                 self.farm = Some(farm);
             }

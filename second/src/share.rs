@@ -3,7 +3,7 @@
 //! It knows nothing of jobs, shows or clocks. All times count from the start
 //! of the window.
 
-/// Four costs, in ticks.
+/// Five costs, in ticks.
 #[derive(Clone, Copy, Debug, PartialEq, Eq)]
 pub struct Costs {
     /// m, a unit.
@@ -14,20 +14,54 @@ pub struct Costs {
     pub link_setup: u64,
     /// SC, a chunk.
     pub node_setup: u64,
+    /// r, a unit.
+    pub return_cost: u64,
 }
 
 impl Costs {
-    pub fn new(send: u64, compute: u64, link_setup: u64, node_setup: u64) -> Self {
+    /// In the order of the `farm` line.
+    pub fn new(
+        send: u64,
+        compute: u64,
+        link_setup: u64,
+        node_setup: u64,
+        return_cost: u64,
+    ) -> Self {
         Costs {
             send,
             compute,
             link_setup,
             node_setup,
+            return_cost,
         }
+    }
+
+    /// What a chunk takes on the link.
+    #[inline]
+    pub fn send_ticks(self, units: u64) -> u64 {
+        self.link_setup + units * self.send
+    }
+
+    /// What it then takes on its node.
+    #[inline]
+    pub fn compute_ticks(self, units: u64) -> u64 {
+        self.node_setup + units * self.compute
+    }
+
+    /// What its audio then takes on the node's own return line.
+    #[inline]
+    pub fn return_ticks(self, units: u64) -> u64 {
+        units * self.return_cost
+    }
+
+    /// A chunk has finished when its audio is back.
+    #[inline]
+    pub fn finish(self, send_end: u64, units: u64) -> u64 {
+        send_end + self.compute_ticks(units) + self.return_ticks(units)
     }
 }
 
-/// One node's share and when it is sent and computed.
+/// One node's share, when its send ends and when its audio is back.
 #[derive(Clone, Copy, Debug, PartialEq, Eq)]
 pub struct Share {
     pub units: u64,
@@ -39,7 +73,7 @@ pub struct Share {
 #[derive(Clone, Copy, Debug)]
 pub struct Windows {
     costs: Costs,
-    /// m + p, what one more unit takes of a node's window.
+    /// m + p + r, what one more unit takes of a node's window.
     unit: u64,
     /// ST + SC, what a chunk takes before its first unit.
     setup: u64,
@@ -70,7 +104,7 @@ const GUESSES: u32 = 8;
 
 impl Windows {
     pub fn new(costs: Costs) -> Self {
-        let unit = costs.send + costs.compute;
+        let unit = costs.send + costs.compute + costs.return_cost;
         Windows {
             costs,
             unit,
@@ -93,8 +127,9 @@ impl Windows {
         self.whole_units(window.saturating_sub(self.setup))
     }
 
-    /// `ticks / unit`. The product is exact enough as ticks stay below 2^40
-    /// and a unit below 2^20: the error is under 2^-24, a step at least 2^-20.
+    /// `ticks / unit`. The product is exact enough as ticks stay below 2^40 and
+    /// a unit, at most 1,020,000, below 2^20: the error is under 2^-24, a step at
+    /// least 2^-20.
     #[inline]
     fn whole_units(&self, ticks: u64) -> u64 {
         ((u128::from(ticks) * u128::from(self.reciprocal)) >> 64) as u64
@@ -103,7 +138,7 @@ impl Windows {
     /// What a share on the link leaves of a window for the nodes after it.
     #[inline]
     fn after_send(&self, window: u64, units: u64) -> u64 {
-        window - self.costs.link_setup - units * self.costs.send
+        window - self.costs.send_ticks(units)
     }
 
     /// The most units that the given number of nodes hold in a window.
@@ -175,10 +210,10 @@ impl Windows {
         self.setup + self.unit / 2 + (ticks / fractions.reach) as u64
     }
 
-    /// Each node's share is p / (m + p) of the share before it, less what the
-    /// link setup takes; these are the sums over the nodes.
+    /// Each node's share is (p + r) / (m + p + r) of the share before it, less
+    /// what the link setup takes; these are the sums over the nodes.
     fn fractions(&self, nodes: usize) -> Fractions {
-        let ratio = self.costs.compute as f64 / self.unit as f64;
+        let ratio = (self.unit - self.costs.send) as f64 / self.unit as f64;
         let endless = self.unit as f64 / self.costs.send as f64;
         let reach = endless * (1.0 - ratio.powi(nodes as i32));
         let drag = self.costs.link_setup as f64 * endless * (nodes as f64 - reach);
@@ -223,11 +258,10 @@ impl Windows {
             left -= units;
             window = self.after_send(window, units);
             let send_end = least_window - window;
-            let finish = send_end + self.costs.node_setup + units * self.costs.compute;
             Some(Share {
                 units,
                 send_end,
-                finish,
+                finish: self.costs.finish(send_end, units),
             })
         })
     }

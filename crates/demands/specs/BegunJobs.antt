@@ -3,7 +3,7 @@ use mathlib.Core.Path.{_≡_, refl, ap, ap₂, sym, subst, _∙_}
 use mathlib.Core.List.{List, [], _∷_, _++_, map, append-assoc, List·Permᴰ, List·Permᴰ·trans, Permᴰ·symm, Permᴰ·append-left}
 use Prim.Native.Nat.{ℕ}
 use Rattle.lists.specs.Laws.{map-join}
-use Rattle.shares.specs.declared.Costs.{Costs}
+use Rattle.limits.specs.declared.FarmCosts.{FarmCosts}
 use Rattle.walk.specs.declared.Job.{Job}
 use Rattle.walk.specs.declared.Chunk.{Chunk}
 use Rattle.walk.specs.Chain.{spans-lines}
@@ -32,7 +32,7 @@ begun-left f t = List·Permᴰ·trans (subst (List·Permᴰ (waitingOf f)) (begu
 -- ---- Spans and lines of several jobs
 
 -- The spans of two groups of jobs are those of the one, then those of the other.
-pub spans-append : (c : Costs) (xs ys : List Job) → spansOfAll c (xs ++ ys) ≡ spansOfAll c xs ++ spansOfAll c ys
+pub spans-append : (c : FarmCosts) (xs ys : List Job) → spansOfAll c (xs ++ ys) ≡ spansOfAll c xs ++ spansOfAll c ys
 unfolding spansOfAll
 spans-append c [] ys = refl
 spans-append c (j ∷ xs) ys = ap (λ (l : List Span). spansOf c j ++ l) (spans-append c xs ys) ∙ sym (append-assoc (spansOf c j) (spansOfAll c xs) (spansOfAll c ys))
@@ -42,7 +42,7 @@ abbrev pub chunkOf : Span → Chunk
 chunkOf x = x .chunk
 
 -- The chunks of jobs' spans are their lines.
-pub spans-chunks : (c : Costs) (js : List Job) → map chunkOf (spansOfAll c js) ≡ linesOfAll c js
+pub spans-chunks : (c : FarmCosts) (js : List Job) → map chunkOf (spansOfAll c js) ≡ linesOfAll c js
 unfolding spansOfAll linesOfAll
 spans-chunks c [] = refl
 spans-chunks c (j ∷ js) = map-join chunkOf (spansOf c j) (spansOfAll c js) ∙ ap₂ _++_ (spans-lines c j) (spans-chunks c js)

@@ -7,7 +7,7 @@ use mathlib.Core.Bool.{Bool, true, cond}
 use lib.Dec.{eqb}
 use lib.ListN.{length, getD, take}
 use Rattle.lists.specs.Laws.{All}
-use Rattle.shares.specs.declared.Costs.{Costs}
+use Rattle.limits.specs.declared.FarmCosts.{FarmCosts}
 use Rattle.shares.specs.Model.{sendEnd, chunkFinish}
 use Rattle.walk.specs.declared.Job.{Job}
 use Rattle.walk.specs.declared.Chunk.{Chunk}
@@ -152,12 +152,12 @@ abbrev pub acceptedOf : Job → Accepted
 acceptedOf j = record { number = j .number; show = j .show; size = j .size; compute = j .compute; deadline = j .deadline }
 
 -- the costs that it was accepted with: the farm's, with its compute cost
-abbrev pub acceptedCosts : Costs → Accepted → Costs
+abbrev pub acceptedCosts : FarmCosts → Accepted → FarmCosts
 acceptedCosts c x = withCompute c (x .compute)
 
 -- chunks that do what was accepted: of its number and show, some units each, adding up to its size, sent and finished as its costs make it, ending by
 -- its deadline
-pub record Fulfils (c : Costs) (x : Accepted) (ls : List Chunk) : Type 0 where
+pub record Fulfils (c : FarmCosts) (x : Accepted) (ls : List Chunk) : Type 0 where
   pub named : All (λ (y : Chunk). (y .job ≡ x .number) × (y .show ≡ x .show)) ls
   pub each : All (λ (y : Chunk). 1 ≤ y .units) ls
   pub all : unitsIn ls ≡ x .size

@@ -6,7 +6,7 @@ use mathlib.Core.List.{List, [], _∷_, _++_}
 use mathlib.Core.Bool.{false}
 use lib.ListN.{replicate}
 use Rattle.lists.specs.Laws.{All}
-use Rattle.shares.specs.declared.Costs.{Costs}
+use Rattle.limits.specs.declared.FarmCosts.{FarmCosts}
 use Rattle.shares.specs.Model.{finish, sum, first, left, capacity, cut, greedy, earliest}
 use Rattle.keys.specs.Model.{noLater, insertKey, sortOnto}
 use Rattle.booking.specs.Best.{units}
@@ -31,7 +31,7 @@ pub record Outcome : Type 0 where
 -- a row of the table: a farm to open, the calls made before, the offer in question, and what is expected of it
 pub record Row : Type 0 where
   pub nodes : ℕ
-  pub costs : Costs
+  pub costs : FarmCosts
   pub allowances : List ℕ
   pub before : List Call
   pub offer : Offer
@@ -72,11 +72,11 @@ Right r = run r ≡ r .expected
 -- ---- The table
 
 -- m, p, ST, SC
-abbrev pub costsOf : ℕ → ℕ → ℕ → ℕ → Costs
+abbrev pub costsOf : ℕ → ℕ → ℕ → ℕ → FarmCosts
 costsOf m p st sc = record { send = m; compute = p; linksetup = st; nodesetup = sc }
 
 -- one offer to a new farm of one show: all nodes and the link free, start 0, so that the window is the deadline
-abbrev pub alone : ℕ → Costs → ℕ → ℕ → Outcome → Row
+abbrev pub alone : ℕ → FarmCosts → ℕ → ℕ → Outcome → Row
 alone n c z w e = record {
   nodes = n;
   costs = c;

@@ -13,7 +13,7 @@ use Prim.Native.Nat.{ℕ, zero, suc, _+_, _-_}
 use native.Mathlib.Omega.{arith}
 use lib.Dec.{leb, ltb, eqb}
 use lib.ListN.{length, drop}
-use Rattle.shares.specs.declared.Costs.{Costs}
+use Rattle.limits.specs.declared.FarmCosts.{FarmCosts}
 use Rattle.walk.specs.declared.Chunk.{Chunk}
 use Rattle.planner.specs.declared.Farm.{Farm}
 use Rattle.planner.specs.declared.Offer.{Offer}
@@ -39,7 +39,7 @@ firstNo [] = 0
 firstNo (q ∷ qs) = cond (q .yes) (firstNo qs) (q .number)
 
 -- An opening is refused with 1, 2 or 3, by the first of its questions answered no, and granted otherwise.
-pub open-asks : (n : ℕ) (c : Costs) (al : List ℕ) → openSaid n c al .number ≡ firstNo (asks 1 (between 1 n 64) ∷ asks 2 (costsWithin c) ∷ asks 3 (showsWithin al) ∷ [])
+pub open-asks : (n : ℕ) (c : FarmCosts) (al : List ℕ) → openSaid n c al .number ≡ firstNo (asks 1 (between 1 n 64) ∷ asks 2 (costsWithin c) ∷ asks 3 (showsWithin al) ∷ [])
 unfolding openSaid firstNo
 open-asks n c al = go (between 1 n 64) (costsWithin c) (showsWithin al)
   where
@@ -123,7 +123,7 @@ account-asks f s = go (passesOf f) (between 1 s (f .shows)) (s ∷ heldBy f s �
 -- ---- A refusal changes nothing
 
 -- A refused opening hands back the unopened farm.
-pub open-keeps : (n : ℕ) (c : Costs) (al : List ℕ) (k : ℕ) → openSaid n c al .number ≡ suc k → openFarm n c al ≡ unopened
+pub open-keeps : (n : ℕ) (c : FarmCosts) (al : List ℕ) (k : ℕ) → openSaid n c al .number ≡ suc k → openFarm n c al ≡ unopened
 unfolding openSaid openFarm
 open-keeps n c al k = go (between 1 n 64) (costsWithin c) (showsWithin al)
   where

@@ -31,6 +31,7 @@ use lib.Dec.{eqb}
 use lib.ListN.{length, replicate, length-replicate, getD-replicate}
 use Rattle.lists.specs.Laws.{All, Pairs, Differ, all-map, all-of, all-image, image-all, all-append, all-join, pairs-across, pairs-parts, perm-all, perm-mem, perm-pairs, mem-image, at-member, mem-left, mem-right, map-join}
 use Rattle.shares.specs.declared.Costs.{Costs}
+use Rattle.limits.specs.declared.FarmCosts.{FarmCosts}
 use Rattle.shares.specs.Model.{finish}
 use Rattle.shares.specs.Lists.{Positive}
 use Rattle.booking.specs.Best.{freeAt, units}
@@ -399,7 +400,7 @@ issued-issues-none w (move t m) cs i = ⊎-elim (λ r. subst (All P) (sym (r .li
 
 -- ---- The theorem
 
-pub opening-granted : (n : ℕ) (c : Costs) (al : List ℕ) → openSaid n c al .number ≡ 0 → (between 1 n 64 && costsWithin c && showsWithin al) ≡ true
+pub opening-granted : (n : ℕ) (c : FarmCosts) (al : List ℕ) → openSaid n c al .number ≡ 0 → (between 1 n 64 && costsWithin c && showsWithin al) ≡ true
 unfolding openSaid
 opening-granted n c al e = go (between 1 n 64) (costsWithin c) (showsWithin al) e
   where
@@ -411,7 +412,7 @@ opening-granted n c al e = go (between 1 n 64) (costsWithin c) (showsWithin al) 
     go false b d h = absurd (omega arith)
 
 -- **Demand 3.** It holds of every list of calls after a granted opening.
-pub demand3 : (n : ℕ) (c : Costs) (al : List ℕ) → openSaid n c al .number ≡ 0 → (cs : List Call) → Demand3 (openFarm n c al) cs (run (opening (openFarm n c al)) cs)
+pub demand3 : (n : ℕ) (c : FarmCosts) (al : List ℕ) → openSaid n c al .number ≡ 0 → (cs : List Call) → Demand3 (openFarm n c al) cs (run (opening (openFarm n c al)) cs)
 demand3 n c al e cs =
     let f = openFarm n c al in
     let o : Inv (opening f) = open-inv n c al (opening-granted n c al e) in

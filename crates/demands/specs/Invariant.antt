@@ -9,7 +9,7 @@ use native.Mathlib.Numerals.{add-one}
 use lib.ListN.{length, getD, replicate, length-replicate, getD-replicate}
 use Rattle.lists.specs.Laws.{All, all-map, all-both, all-of, all-image, all-take, all-append, all-join, perm-all, map-join}
 use Rattle.queue.specs.Numbers.{of-number-has}
-use Rattle.shares.specs.declared.Costs.{Costs}
+use Rattle.limits.specs.declared.FarmCosts.{FarmCosts}
 use Rattle.shares.specs.Model.{sum, finish}
 use Rattle.shares.specs.Lists.{Positive}
 use Rattle.booking.specs.Best.{chosen, units}
@@ -44,7 +44,7 @@ abbrev pub idle : Busy
 idle = record { link = 0; free = replicate 64 0 }
 
 -- what is kept of a job, begun or waiting: its show, its shares, and its chunks by its deadline
-pub record Whole (c : Costs) (shows : ℕ) (j : Job) : Type 0 where
+pub record Whole (c : FarmCosts) (shows : ℕ) (j : Job) : Type 0 where
   pub show : Between 1 (j .show) shows
   pub deadline : j .deadline ≤ greatest
   pub paired : Paired j
@@ -88,7 +88,7 @@ waiting-whole f j h = record {
 
 -- ---- An opening
 
-opened-inv : (n : ℕ) (c : Costs) (al : List ℕ) → Sized (openedWith n c al) → passesOf (openedWith n c al) ≡ true → Inv (opening (openedWith n c al))
+opened-inv : (n : ℕ) (c : FarmCosts) (al : List ℕ) → Sized (openedWith n c al) → passesOf (openedWith n c al) ≡ true → Inv (opening (openedWith n c al))
 unfolding spansOfAll afters heldOf upTo
 opened-inv n c al z e = record {
   past = [];
@@ -108,7 +108,7 @@ opened-inv n c al z e = record {
 }
 
 -- A granted opening has it.
-pub open-inv : (n : ℕ) (c : Costs) (al : List ℕ) → (between 1 n 64 && costsWithin c && showsWithin al) ≡ true → Inv (opening (openFarm n c al))
+pub open-inv : (n : ℕ) (c : FarmCosts) (al : List ℕ) → (between 1 n 64 && costsWithin c && showsWithin al) ≡ true → Inv (opening (openFarm n c al))
 open-inv n c al e =
     let q = opens-with n c al e in
     subst (λ (f : Farm). Inv (opening f)) (sym q) (opened-inv n c al (subst Sized q (open-sized n c al)) (subst (λ (f : Farm). passesOf f ≡ true) q (open-passes n c al e)))
@@ -243,11 +243,11 @@ module _ (w : History) (n : ℕ) where
 -- ---- Limits of what was issued
 
 -- The spans of whole jobs are proper.
-pub whole-proper : (c : Costs) (n : ℕ) (js : List Job) → All (Whole c n) js → All (Proper 64) (spansOfAll c js)
+pub whole-proper : (c : FarmCosts) (n : ℕ) (js : List Job) → All (Whole c n) js → All (Proper 64) (spansOfAll c js)
 whole-proper c n js h = spans-all (Proper 64) c js (all-map (λ j k. k .proper) js h)
 
 -- The chunks of whole jobs are sent and finish within the time range.
-whole-limits : (c : Costs) (n : ℕ) (js : List Job) → All (Whole c n) js → All (λ (x : Chunk). (x .sent ≤ greatest) × (x .finish ≤ greatest)) (map chunkOf (spansOfAll c js))
+whole-limits : (c : FarmCosts) (n : ℕ) (js : List Job) → All (Whole c n) js → All (λ (x : Chunk). (x .sent ≤ greatest) × (x .finish ≤ greatest)) (map chunkOf (spansOfAll c js))
 whole-limits c n js h =
     all-image (λ (x : Chunk). (x .sent ≤ greatest) × (x .finish ≤ greatest)) chunkOf (spansOfAll c js)
     (spans-all (λ (x : Span). (x .chunk .sent ≤ greatest) × (x .chunk .finish ≤ greatest)) c js (all-map one js h))
@@ -260,13 +260,13 @@ all-by P [] h = tt
 all-by P (x ∷ xs) h = (h 0 (omega arith), all-by P xs (λ i l. h (suc i) (omega arith)))
 
 -- The free times behind whole jobs are within the time range.
-free-limits : (c : Costs) (n : ℕ) (js : List Job) → All (Whole c n) js
+free-limits : (c : FarmCosts) (n : ℕ) (js : List Job) → All (Whole c n) js
     → (afters idle (map chunkOf (spansOfAll c js)) .link ≤ greatest) × All (λ (x : ℕ). x ≤ greatest) (afters idle (map chunkOf (spansOfAll c js)) .free)
 free-limits c n js h =
     afters-within greatest idle (map chunkOf (spansOfAll c js)) (omega arith) (all-replicate (λ (x : ℕ). x ≤ greatest) 64 0 (omega arith)) (whole-limits c n js h)
 
 -- As spans on a node do not overlap, a show's held ticks are at most 64 times the time range.
-held-limit : (c : Costs) (n s : ℕ) (js : List Job) → All (Whole c n) js → Chain idle (spansOfAll c js) → heldOf s (spansOfAll c js) ≤ 64_000_000_000_000
+held-limit : (c : FarmCosts) (n s : ℕ) (js : List Job) → All (Whole c n) js → Chain idle (spansOfAll c js) → heldOf s (spansOfAll c js) ≤ 64_000_000_000_000
 held-limit c n s js h k =
     let free = afters idle (map chunkOf (spansOfAll c js)) .free in
     omega (

@@ -5,7 +5,7 @@ use mathlib.Core.Bool.{Bool, true, false, cond, _&&_}
 use lib.Dec.{eqb}
 use lib.ListN.{length, getD}
 use Rattle.lists.specs.Laws.{All, all-join}
-use Rattle.shares.specs.declared.Costs.{Costs}
+use Rattle.limits.specs.declared.FarmCosts.{FarmCosts}
 use Rattle.planner.specs.declared.Farm.{Farm}
 use Rattle.planner.specs.declared.ComputeCost.the-variants.{Absent}
 use Rattle.planner.specs.Model.{withCompute, waitingOf}
@@ -59,7 +59,7 @@ GivesNone (withdraw n) = Unit
 GivesNone (move t m) = Unit
 
 -- the costs that a job was accepted with are these
-abbrev At : Costs → Accepted → Type 0
+abbrev At : FarmCosts → Accepted → Type 0
 At c x = acceptedCosts c x ≡ c
 
 call-at : (f : Farm) (c : Call) → GivesNone c → All (At (f .costs)) (jobsBy f c)
@@ -71,12 +71,12 @@ call-at f (offer o) h = go (isGranted f (offer o)) (record { number = getD (offe
 call-at f (withdraw n) h = tt
 call-at f (move t m) h = tt
 
-run-at : (c : Costs) (w : History) (cs : List Call) → w .farm .costs ≡ c → All GivesNone cs → All (At c) (w .jobs) → All (At c) (run w cs .jobs)
+run-at : (c : FarmCosts) (w : History) (cs : List Call) → w .farm .costs ≡ c → All GivesNone cs → All (At c) (w .jobs) → All (At c) (run w cs .jobs)
 unfolding run
 run-at c w [] e h k = k
 run-at c w (x ∷ cs) e h k =
     run-at c (note w x) cs (handed-keeps (w .farm) x .costs ∙ e) (h .1)
-    (all-join (At c) (w .jobs) (jobsBy (w .farm) x) k (subst (λ (d : Costs). All (At d) (jobsBy (w .farm) x)) e (call-at (w .farm) x (h .0))))
+    (all-join (At c) (w .jobs) (jobsBy (w .farm) x) k (subst (λ (d : FarmCosts). All (At d) (jobsBy (w .farm) x)) e (call-at (w .farm) x (h .0))))
 
 -- **No compute cost given.** Where no offer of a list gives one, every job is accepted with the farm's costs, so that by demand 3 its chunks are sent and
 -- finish as if there were no other.

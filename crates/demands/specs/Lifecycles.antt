@@ -11,6 +11,7 @@ use lib.Dec.{eqb}
 use lib.ListN.{length}
 use Rattle.lists.specs.Laws.{All, Differ, all-map, at-member, all-image, image-all, all-append, all-join, pairs-across, mem-left, mem-right, map-join, perm-all, perm-mem, perm-pairs, pairs-parts}
 use Rattle.shares.specs.declared.Costs.{Costs}
+use Rattle.limits.specs.declared.FarmCosts.{FarmCosts}
 use Rattle.shares.specs.Model.{sum, sendEnd, chunkFinish}
 use Rattle.shares.specs.Lists.{Positive}
 use Rattle.booking.specs.Best.{chosen, units}
@@ -53,13 +54,13 @@ from-image f (x ∷ xs) m = ⊎-elim (λ e. record { it = x; among = List·Mem�
 -- ---- The chunks of a job
 
 -- A job's spans name it.
-pub spans-named : (c : Costs) (j : Job) → All (λ (y : Span). y .chunk .job ≡ j .number) (spansOf c j)
+pub spans-named : (c : FarmCosts) (j : Job) → All (λ (y : Span). y .chunk .job ≡ j .number) (spansOf c j)
 spans-named c j =
     all-image (λ (y : Span). y .chunk .job ≡ j .number) (λ (x : Chunk). record { from = j .booking .start; chunk = x }) (linesOf c j)
     (all-map (λ x h. h .0) (linesOf c j) (chunks-named (ownCosts c j) (j .number) (j .show) (j .booking .start) (chosen (j .booking)) (units (j .booking))))
 
 -- Jobs of other numbers have no chunk of job n.
-pub none-of-jobs : (c : Costs) (n : ℕ) (js : List Job) → All (λ (j : Job). j .number ≡ n → ⊥) js → NoneOf n (spansOfAll c js)
+pub none-of-jobs : (c : FarmCosts) (n : ℕ) (js : List Job) → All (λ (j : Job). j .number ≡ n → ⊥) js → NoneOf n (spansOfAll c js)
 none-of-jobs c n js h = spans-all (λ (y : Span). y .chunk .job ≡ n → ⊥) c js (all-map (λ j k. all-map (λ y e q. k (sym e ∙ q)) (spansOf c j) (spans-named c j)) js h)
 
 -- Where no chunk is of job n, it has none.
@@ -85,7 +86,7 @@ lines-append n (x ∷ xs) ys = go (eqb (x .chunk .job) n) (lines-append n xs ys)
     go false e = e
 
 -- Of jobs with different numbers, the chunks of one are its own, each once.
-pub lines-own : (c : Costs) (js : List Job) (j : Job) → Differ (map numberOfJob js) → List·Memᴰ j js → linesFor (j .number) (spansOfAll c js) ≡ spansOf c j
+pub lines-own : (c : FarmCosts) (js : List Job) (j : Job) → Differ (map numberOfJob js) → List·Memᴰ j js → linesFor (j .number) (spansOfAll c js) ≡ spansOf c j
 unfolding spansOfAll
 lines-own c [] j d m = absurd (List·Memᴰ·not-nil m)
 lines-own c (i ∷ js) j d m = lines-append (j .number) (spansOf c i) (spansOfAll c js) ∙ ⊎-elim here (λ n. there n (lines-own c js j (d .1) n)) (List·Memᴰ·cases-cons m)
@@ -123,7 +124,7 @@ chunks-times c j s t (k ∷ ks) [] = tt
 chunks-times c j s t (k ∷ ks) (a ∷ xs) = ((refl, refl), chunks-times c j s (sendEnd c t a) ks xs)
 
 -- The chunks of a whole job do what it was accepted for.
-pub whole-fulfils : (c : Costs) (n : ℕ) (j : Job) → Whole c n j → Fulfils c (acceptedOf j) (linesOf c j)
+pub whole-fulfils : (c : FarmCosts) (n : ℕ) (j : Job) → Whole c n j → Fulfils c (acceptedOf j) (linesOf c j)
 whole-fulfils c n j h =
     let s = j .booking .start in
     let own = ownCosts c j in
@@ -146,7 +147,7 @@ chunks-first c j s t (k ∷ ks) [] = tt
 chunks-first c j s t (k ∷ ks) (a ∷ xs) = (refl, placed-from t (chunksFrom c j s (sendEnd c t a) ks xs))
 
 -- A job's start is the send start of its first chunk.
-pub spans-first : (c : Costs) (j : Job) → FromFirst (spansOf c j)
+pub spans-first : (c : FarmCosts) (j : Job) → FromFirst (spansOf c j)
 spans-first c j = chunks-first (ownCosts c j) (j .number) (j .show) (j .booking .start) (chosen (j .booking)) (units (j .booking))
 
 -- ---- A job that waits

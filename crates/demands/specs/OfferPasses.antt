@@ -9,7 +9,7 @@ use lib.Dec.{eqb}
 use lib.ListN.{length, take, drop, replicate, length-append, length-drop, length-replicate, take-append-drop}
 use lib.Seq.{take-at, length-take-le}
 use Rattle.lists.specs.Laws.{All, Pairs, Differ, all-map, all-both, all-image, all-take, all-append, all-join, perm-all, perm-pairs, perm-length}
-use Rattle.shares.specs.declared.Costs.{Costs}
+use Rattle.limits.specs.declared.FarmCosts.{FarmCosts}
 use Rattle.shares.specs.Chunks.{finish-latest}
 use Rattle.booking.specs.declared.Booking.{Booking}
 use Rattle.booking.specs.Model.{bookingOf}
@@ -56,7 +56,7 @@ unopened-sized = record {
   each = all-replicate JobSized 128 emptyJob empty-sized;
 }
 
-opened-sized : (n : ℕ) (c : Costs) (al : List ℕ) → length al ≤ 32 → Sized (openedWith n c al)
+opened-sized : (n : ℕ) (c : FarmCosts) (al : List ℕ) → length al ≤ 32 → Sized (openedWith n c al)
 opened-sized n c al h = record {
   allowances = omega (arith, length-append al (replicate (32 - length al) 0), length-replicate {A = ℕ} (32 - length al) 0);
   held = length-replicate {A = ℕ} 32 0;
@@ -65,7 +65,7 @@ opened-sized n c al h = record {
   each = all-replicate JobSized 128 emptyJob empty-sized;
 }
 
-opened-passes : (n : ℕ) (c : Costs) (al : List ℕ) → between 1 n 64 ≡ true → costsWithin c ≡ true → showsWithin al ≡ true → Passes (openedWith n c al)
+opened-passes : (n : ℕ) (c : FarmCosts) (al : List ℕ) → between 1 n 64 ≡ true → costsWithin c ≡ true → showsWithin al ≡ true → Passes (openedWith n c al)
 unfolding spansOfAll
 opened-passes n c al a b d =
     let s = between-is 1 (length al) 32 (and-both (between 1 (length al) 32) (allAtMost greatest al) d .0) in
@@ -88,19 +88,19 @@ opened-passes n c al a b d =
       sound = record { jobs = tt; apart = tt; differ = tt };
     }
 
-pub opens-with : (n : ℕ) (c : Costs) (al : List ℕ) → (between 1 n 64 && costsWithin c && showsWithin al) ≡ true → openFarm n c al ≡ openedWith n c al
+pub opens-with : (n : ℕ) (c : FarmCosts) (al : List ℕ) → (between 1 n 64 && costsWithin c && showsWithin al) ≡ true → openFarm n c al ≡ openedWith n c al
 unfolding openFarm
 opens-with n c al e = ap (λ (b : Bool). cond b (openedWith n c al) unopened) e
 
 -- the three questions of an opening, from their one test
-opening-asked : (n : ℕ) (c : Costs) (al : List ℕ) → (between 1 n 64 && costsWithin c && showsWithin al) ≡ true
+opening-asked : (n : ℕ) (c : FarmCosts) (al : List ℕ) → (between 1 n 64 && costsWithin c && showsWithin al) ≡ true
     → (between 1 n 64 ≡ true) × (costsWithin c ≡ true) × (showsWithin al ≡ true)
 opening-asked n c al e =
     let p = and-both (between 1 n 64 && costsWithin c) (showsWithin al) e .0 in
     (and-both (between 1 n 64) (costsWithin c) p .0, and-both (between 1 n 64) (costsWithin c) p .1, and-both (between 1 n 64 && costsWithin c) (showsWithin al) e .1)
 
 -- An opening, granted or not, hands back a farm with its arrays.
-pub open-sized : (n : ℕ) (c : Costs) (al : List ℕ) → Sized (openFarm n c al)
+pub open-sized : (n : ℕ) (c : FarmCosts) (al : List ℕ) → Sized (openFarm n c al)
 unfolding openFarm
 open-sized n c al = go (between 1 n 64 && costsWithin c && showsWithin al) refl
   where
@@ -111,7 +111,7 @@ open-sized n c al = go (between 1 n 64 && costsWithin c && showsWithin al) refl
     go false e = unopened-sized
 
 -- A granted opening hands back a farm that passes question 11.
-pub open-passes : (n : ℕ) (c : Costs) (al : List ℕ) → (between 1 n 64 && costsWithin c && showsWithin al) ≡ true → passesOf (openFarm n c al) ≡ true
+pub open-passes : (n : ℕ) (c : FarmCosts) (al : List ℕ) → (between 1 n 64 && costsWithin c && showsWithin al) ≡ true → passesOf (openFarm n c al) ≡ true
 open-passes n c al e =
     let q = opening-asked n c al e in
     passes-iff (openFarm n c al) (open-sized n c al) .1 (granted q)

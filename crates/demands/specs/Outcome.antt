@@ -10,6 +10,7 @@ use lib.ListN.{length, take, drop}
 use lib.Seq.{take-at}
 use Rattle.lists.specs.Laws.{All, all-map, all-of, perm-all, perm-mem, mem-image, map-join}
 use Rattle.shares.specs.declared.Costs.{Costs}
+use Rattle.limits.specs.declared.FarmCosts.{FarmCosts}
 use Rattle.shares.specs.Model.{sendEnd}
 use Rattle.booking.specs.Best.{chosen, units}
 use Rattle.walk.specs.declared.Job.{Job}
@@ -89,7 +90,7 @@ map-same f g [] h = refl
 map-same f g (x ∷ xs) h = ap₂ _∷_ (h .0) (map-same f g xs (h .1))
 
 -- Lines with the starts that their jobs have are the jobs' spans.
-started-lines : (f : Farm) (c : Costs) (js : List Job) → All (λ (j : Job). ofNumber (j .number) (waitingOf f) ≡ j) js → map (withStart f) (linesOfAll c js) ≡ spansOfAll c js
+started-lines : (f : Farm) (c : FarmCosts) (js : List Job) → All (λ (j : Job). ofNumber (j .number) (waitingOf f) ≡ j) js → map (withStart f) (linesOfAll c js) ≡ spansOfAll c js
 unfolding linesOfAll spansOfAll
 started-lines f c [] h = refl
 started-lines f c (j ∷ js) h = map-join (withStart f) (linesOf c j) (linesOfAll c js) ∙ ap₂ _++_ one (started-lines f c js (h .1))

@@ -3,7 +3,7 @@ use mathlib.Core.Path.{_≡_, refl, ap, subst, _∙_}
 use mathlib.Core.List.{List, [], _∷_, _++_}
 use mathlib.Core.Bool.{true}
 use Prim.Native.Nat.{ℕ}
-use Rattle.shares.specs.declared.Costs.{Costs}
+use Rattle.limits.specs.declared.FarmCosts.{FarmCosts}
 use Rattle.planner.specs.declared.Farm.{Farm}
 use Rattle.planner.specs.Model.{Sized}
 use Rattle.planner.specs.Passes.{passesOf}
@@ -15,14 +15,14 @@ use Rattle.demands.specs.Demand3.{opening-granted, demand3}
 -- the farm that a list of calls after a granted opening hands back
 pub record Reached (f : Farm) : Type 0 where
   pub nodes : ℕ
-  pub costs : Costs
+  pub costs : FarmCosts
   pub allowances : List ℕ
   pub granted : openSaid nodes costs allowances .number ≡ 0
   pub calls : List Call
   pub is : run (opening (openFarm nodes costs allowances)) calls .farm ≡ f
 
 -- A granted opening reaches its farm.
-pub reached-opening : (n : ℕ) (c : Costs) (al : List ℕ) → openSaid n c al .number ≡ 0 → Reached (openFarm n c al)
+pub reached-opening : (n : ℕ) (c : FarmCosts) (al : List ℕ) → openSaid n c al .number ≡ 0 → Reached (openFarm n c al)
 unfolding run
 reached-opening n c al e = record { nodes = n; costs = c; allowances = al; granted = e; calls = []; is = refl }
 

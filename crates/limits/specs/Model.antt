@@ -3,7 +3,7 @@ use Prim.Native.Nat.{ℕ, _≤_}
 use mathlib.Core.List.{List, [], _∷_}
 use mathlib.Core.Bool.{Bool, true, _&&_}
 use lib.Dec.{leb}
-use Rattle.shares.specs.declared.Costs.{Costs}
+use Rattle.limits.specs.declared.FarmCosts.{FarmCosts}
 
 -- the greatest tick, allowance and count of job numbers
 abbrev pub greatest : ℕ
@@ -25,9 +25,14 @@ unfoldable pub allAtLeast : ℕ → List ℕ → Bool
 allAtLeast a [] = true
 allAtLeast a (x ∷ xs) = leb a x && allAtLeast a xs
 
--- whether the costs are within the table
-unfoldable pub costsWithin : Costs → Bool
-costsWithin c = between 1 (c .send) 10_000 && between 1 (c .compute) 1_000_000 && leb (c .linksetup) 1_000_000 && leb (c .nodesetup) 1_000_000
+-- whether a farm's costs are within the table, r being from 0 to 10,000
+unfoldable pub costsWithin : FarmCosts → Bool
+costsWithin c =
+    between 1 (c .send) 10_000
+    && between 1 (c .compute) 1_000_000
+    && leb (c .linksetup) 1_000_000
+    && leb (c .nodesetup) 1_000_000
+    && leb (c .returning) 10_000
 
 -- ---- What they say
 
@@ -36,8 +41,9 @@ abbrev pub Between : ℕ → ℕ → ℕ → Type 0
 Between a x b = (a ≤ x) × (x ≤ b)
 
 -- the costs are within the table
-pub record CostsWithin (c : Costs) : Type 0 where
+pub record CostsWithin (c : FarmCosts) : Type 0 where
   pub send : Between 1 (c .send) 10_000
   pub compute : Between 1 (c .compute) 1_000_000
   pub linksetup : c .linksetup ≤ 1_000_000
   pub nodesetup : c .nodesetup ≤ 1_000_000
+  pub returning : c .returning ≤ 10_000

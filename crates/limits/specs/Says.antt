@@ -6,7 +6,7 @@ use Prim.Native.Nat.{ℕ, _≤_}
 use borrow.Author.Tests.{leb-true, le-leb, eqb-true, eq-eqb, eqb-false, ne-eqb, not-true}
 use lib.Dec.{leb, eqb}
 use Rattle.lists.specs.Laws.{All}
-use Rattle.shares.specs.declared.Costs.{Costs}
+use Rattle.limits.specs.declared.FarmCosts.{FarmCosts}
 use Rattle.limits.specs.Model.{between, allAtMost, allAtLeast, costsWithin, Between, CostsWithin}
 
 -- ---- Any test
@@ -71,8 +71,12 @@ says-at-least a [] = record { yields = λ e. tt; follows = λ h. refl }
 says-at-least a (x ∷ xs) = says-both (says-le a x) (says-at-least a xs)
 
 -- The test of the costs says that they are within the table.
-pub says-costs : (c : Costs) → Says (costsWithin c) (CostsWithin c)
+pub says-costs : (c : FarmCosts) → Says (costsWithin c) (CostsWithin c)
 unfolding costsWithin
 says-costs c =
-    says-as (λ h. record { send = h .0 .0 .0; compute = h .0 .0 .1; linksetup = h .0 .1; nodesetup = h .1 }) (λ h. (((h .send, h .compute), h .linksetup), h .nodesetup))
+    says-as
+    (λ h. record { send = h .0 .0 .0 .0; compute = h .0 .0 .0 .1; linksetup = h .0 .0 .1; nodesetup = h .0 .1; returning = h .1 })
+    (λ h. ((((h .send, h .compute), h .linksetup), h .nodesetup), h .returning))
+    (says-both
     (says-both (says-both (says-both (says-between 1 (c .send) 10_000) (says-between 1 (c .compute) 1_000_000)) (says-le (c .linksetup) 1_000_000)) (says-le (c .nodesetup) 1_000_000))
+    (says-le (c .returning) 10_000))

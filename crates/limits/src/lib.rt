@@ -6,7 +6,16 @@ ghost use lib.Dec.{leb, ltb};
 ghost use lib.ListN.{take};
 ghost use Rattle.limits.specs.Model.{greatest, between, allAtMost, costsWithin};
 use numbers::least;
-use shares::Costs;
+
+// What a farm costs, in ticks: to send a unit (document 01's m), to compute a unit (p), to set up a send on the link
+// (ST), to set up a node (SC), and to bring an encoded unit back on the node's return line (r).
+pub struct FarmCosts {
+    pub send: u64,
+    pub compute: u64,
+    pub linksetup: u64,
+    pub nodesetup: u64,
+    pub returning: u64,
+}
 
 pub fn and(a: bool, b: bool) -> bool
     ensures { λ r. ⌜ r ≡ (a && b) ⌝ }
@@ -44,18 +53,19 @@ pub fn all_at_most(xs: &[u64], count: usize, limit: u64) -> bool
     true
 }
 
-// Whether all four costs are within the table.
-pub fn costs_within(costs: Costs) -> bool
+// Whether all five costs are within the table.
+pub fn costs_within(costs: FarmCosts) -> bool
     ensures { λ r. ⌜ r ≡ costsWithin costs ⌝ }
 {
     let units = and(
         between(1, costs.send, 10_000),
         between(1, costs.compute, 1_000_000),
     );
-    and(
+    let with_setups = and(
         and(units, at_most(costs.linksetup, 1_000_000)),
         at_most(costs.nodesetup, 1_000_000),
-    )
+    );
+    and(with_setups, at_most(costs.returning, 10_000))
 }
 
 // Whether a deadline is after the clock and within the time range.

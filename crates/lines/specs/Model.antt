@@ -5,7 +5,7 @@ use mathlib.Core.List.{List, [], _∷_, _++_}
 use mathlib.Core.Bool.{Bool, false, cond, not}
 use lib.Dec.{leb, ltb, eqb}
 use lib.ListN.{length, getD, drop}
-use Rattle.shares.specs.declared.Costs.{Costs}
+use Rattle.limits.specs.declared.FarmCosts.{FarmCosts}
 use Rattle.walk.specs.declared.Chunk.{Chunk}
 use Rattle.planner.specs.declared.Farm.{Farm}
 use Rattle.planner.specs.declared.ComputeCost.{ComputeCost}
@@ -62,7 +62,7 @@ abbrev pub unread : Farm → Answered
 unread f = record { farm = f; text = refusal 11 }
 
 -- `farm` nodes m p ST SC, then one allowance a show
-abbrev pub costsIn : List ℕ → Costs
+abbrev pub costsIn : List ℕ → FarmCosts
 costsIn ns = record { send = getD ns 1 0; compute = getD ns 2 0; linksetup = getD ns 3 0; nodesetup = getD ns 4 0 }
 
 unfoldable pub farmLine : List ℕ → List ℕ → Answered

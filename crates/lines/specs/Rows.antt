@@ -8,7 +8,7 @@ use borrow.Author.Tests.{leb-true, leb-false, le-leb, lt-leb}
 use lib.Dec.{leb}
 use lib.ListN.{length, getD, take, drop, replicate, length-take, length-map, getD-replicate}
 use lib.Seq.{take-all, take-nil, take-at, length-take-le}
-use Rattle.shares.specs.declared.Costs.{Costs}
+use Rattle.limits.specs.declared.FarmCosts.{FarmCosts}
 use Rattle.planner.specs.declared.Farm.{Farm}
 use Rattle.planner.specs.Calls.{openSaid, openFarm, showsWithin}
 use Rattle.text.specs.Model.{value, padded}
@@ -76,13 +76,13 @@ shows-33 al P h k = go (leb (length al) 33) refl
     go false e = k (leb-false (length al) 33 e)
 
 -- An opening asks the same of the first 33 allowances as of all.
-pub open-33 : (n : ℕ) (c : Costs) (al : List ℕ) → openSaid n c (take 33 al) ≡ openSaid n c al
+pub open-33 : (n : ℕ) (c : FarmCosts) (al : List ℕ) → openSaid n c (take 33 al) ≡ openSaid n c al
 unfolding openSaid
 open-33 n c al =
     shows-33 al (λ (x y : List ℕ). openSaid n c x ≡ openSaid n c y) refl
     (λ h. rw (many-shows al (omega arith), many-shows (take 33 al) (omega (arith, length-take-le 33 al (omega arith)))))
 
-pub open-farm-33 : (n : ℕ) (c : Costs) (al : List ℕ) → openFarm n c (take 33 al) ≡ openFarm n c al
+pub open-farm-33 : (n : ℕ) (c : FarmCosts) (al : List ℕ) → openFarm n c (take 33 al) ≡ openFarm n c al
 unfolding openFarm
 open-farm-33 n c al =
     shows-33 al (λ (x y : List ℕ). openFarm n c x ≡ openFarm n c y) refl

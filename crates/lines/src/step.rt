@@ -13,7 +13,7 @@ use planner::Offer;
 use planner::Reply;
 use reading::Kind;
 use reading::Row;
-use shares::Costs;
+use limits::FarmCosts;
 
 // An opening: nodes, the costs m p ST SC, then one allowance a show.
 pub fn opening(row: Row) -> Reply
@@ -22,7 +22,7 @@ pub fn opening(row: Row) -> Reply
 {
     let numbers = row.numbers;
     let count = row.count;
-    let costs = Costs {
+    let costs = FarmCosts {
         send: numbers[1],
         compute: numbers[2],
         linksetup: numbers[3],

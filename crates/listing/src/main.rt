@@ -6,7 +6,7 @@ use planner::Farm;
 use planner::Offer;
 use planner::Reply;
 use planner::Timetable;
-use shares::Costs;
+use limits::FarmCosts;
 use walk::Chunk;
 
 const UNUSED: Chunk = Chunk {
@@ -89,7 +89,7 @@ fn offered(show: u64, size: u64, deadline: u64) -> Offer {
 }
 
 fn main() {
-    let costs = Costs {
+    let costs = FarmCosts {
         send: 1,
         compute: 2,
         linksetup: 0,

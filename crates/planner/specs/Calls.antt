@@ -7,7 +7,7 @@ use mathlib.Core.Bool.{Bool, true, false, cond, _&&_}
 use mathlib.Core.Path.{_≡_}
 use lib.Dec.{leb, ltb, eqb}
 use lib.ListN.{length, getD, drop, replicate}
-use Rattle.shares.specs.declared.Costs.{Costs}
+use Rattle.limits.specs.declared.FarmCosts.{FarmCosts}
 use Rattle.booking.specs.Model.{bookingOf}
 use Rattle.walk.specs.declared.Job.{Job}
 use Rattle.planner.specs.declared.Farm.{Farm}
@@ -95,7 +95,7 @@ unopened = record {
 }
 
 -- a farm just opened
-abbrev pub openedWith : ℕ → Costs → List ℕ → Farm
+abbrev pub openedWith : ℕ → FarmCosts → List ℕ → Farm
 openedWith n c al = record {
   opened = true;
   nodes = n;
@@ -115,11 +115,11 @@ openedWith n c al = record {
 abbrev pub showsWithin : List ℕ → Bool
 showsWithin al = between 1 (length al) 32 && allAtMost greatest al
 
-unfoldable pub openSaid : ℕ → Costs → List ℕ → Said
+unfoldable pub openSaid : ℕ → FarmCosts → List ℕ → Said
 openSaid n c al =
     cond (between 1 n 64) (cond (costsWithin c) (cond (showsWithin al) (granted Open (n ∷ length al ∷ [])) (refused 3)) (refused 2)) (refused 1)
 
-unfoldable pub openFarm : ℕ → Costs → List ℕ → Farm
+unfoldable pub openFarm : ℕ → FarmCosts → List ℕ → Farm
 openFarm n c al = cond (between 1 n 64 && costsWithin c && showsWithin al) (openedWith n c al) unopened
 
 -- ---- Account
@@ -191,7 +191,7 @@ abbrev pub withPlan : Farm → List Job → Farm
 withPlan f js = nextFarm f (js ++ drop (f .waiting + 1) (f .jobs))
 
 -- job, start, finish and count of nodes
-abbrev pub yesOf : Costs → Job → Said
+abbrev pub yesOf : FarmCosts → Job → Said
 yesOf c j = granted Yes (j .number ∷ j .booking .start ∷ finishOf c j ∷ j .booking .count ∷ [])
 
 -- questions 11, 4, 5, 2, 6 and 7 in that order: the number of the first answered no, or 0

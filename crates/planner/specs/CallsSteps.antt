@@ -10,7 +10,7 @@ use lib.Dec.{leb, ltb, eqb}
 use lib.ListN.{length, getD, take, drop, set, replicate}
 use lib.Seq.{take-suc-set, take-suc, drop-set-lt, drop-drop}
 use Rattle.lists.specs.Laws.{all-join, all-map, perm-all}
-use Rattle.shares.specs.declared.Costs.{Costs}
+use Rattle.limits.specs.declared.FarmCosts.{FarmCosts}
 use Rattle.shares.specs.Answers.{answered}
 use Rattle.limits.specs.Tests.{and-both}
 use Rattle.walk.specs.declared.Job.{Job}
@@ -55,7 +55,7 @@ copy-next n i xs ys h k p q l =
       rw (drop-set-lt (i + 1) ys i (getD xs i 0) (omega arith), ← drop-drop 1 i ys, q, e),
     )
 
-module _ (n : ℕ) (c : Costs) (al : List ℕ) (r : Reply) where
+module _ (n : ℕ) (c : FarmCosts) (al : List ℕ) (r : Reply) where
   -- Replies to an opening.
   Opens : Type 0
   Opens = Replies r (openSaid n c al) (openFarm n c al)

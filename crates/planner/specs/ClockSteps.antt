@@ -9,7 +9,7 @@ use lib.Dec.{leb, eqb}
 use lib.ListN.{length, getD, take, drop, take-append-drop, length-map}
 use lib.Seq.{take-at, length-take-le}
 use Rattle.lists.specs.Laws.{All, all-map, all-both, all-front, all-take, perm-all, perm-length}
-use Rattle.shares.specs.declared.Costs.{Costs}
+use Rattle.limits.specs.declared.FarmCosts.{FarmCosts}
 use Rattle.booking.specs.Best.{chosen}
 use Rattle.walk.specs.declared.Job.{Job}
 use Rattle.walk.specs.declared.Busy.{Busy}
@@ -274,7 +274,7 @@ module _ (f : Farm) (t n : ℕ) (r : Move) (x : MoveDecides f t n r) where
   move-taken e = let z = sym (x .granted) ∙ e in (rw z, rw z, move-granted f t n (eqb-true (moveAsked f t n) 0 z) .lines)
 
 -- the lines of these jobs are due: they can be worked out, and there is room for them
-pub record LinesDue (c : Costs) (ls : List Chunk) (room : ℕ) (r : Issue) : Type 0 where
+pub record LinesDue (c : FarmCosts) (ls : List Chunk) (room : ℕ) (r : Issue) : Type 0 where
   pub few : r .count ≤ 128
   pub sends : All (Sends c) (take (r .count) (r .jobs))
   pub lines : linesOfAll c (take (r .count) (r .jobs)) ≡ ls
@@ -284,7 +284,7 @@ pub record LinesDue (c : Costs) (ls : List Chunk) (room : ℕ) (r : Issue) : Typ
 abbrev pub stoppedBy : Farm → Question → Issue
 stoppedBy f q = record { count = 0; jobs = f .jobs; reply = record { answer = answer.No q; farm = f } }
 
-none-due : (c : Costs) (n : ℕ) (f : Farm) (q : Question) → LinesDue c [] n (stoppedBy f q)
+none-due : (c : FarmCosts) (n : ℕ) (f : Farm) (q : Question) → LinesDue c [] n (stoppedBy f q)
 unfolding linesOfAll
 none-due c n f q = record { few = omega arith; sends = tt; lines = refl; fits = omega arith }
 
@@ -404,7 +404,7 @@ move-memory f t m = go (eqb (moveAsked f t (length m)) 0)
     go false = refl
 
 -- What is due, with its costs and its jobs by themselves, as the writer asks for it and as it leaves the memory.
-module _ (c : Costs) (ls : List Chunk) (n : ℕ) (r : Issue) (x : LinesDue c ls n r) (c′ : Costs) (js : List Job) (e : c′ ≡ c) (q : js ≡ r .jobs) where
+module _ (c : FarmCosts) (ls : List Chunk) (n : ℕ) (r : Issue) (x : LinesDue c ls n r) (c′ : FarmCosts) (js : List Job) (e : c′ ≡ c) (q : js ≡ r .jobs) where
   due-sends : All (Sends c′) (take (r .count) js)
   due-sends = rw (e, q) (x .sends)
 

@@ -16,7 +16,7 @@ use limits::between;
 use limits::costs_within;
 use numbers::less;
 use queue::empty_job;
-use shares::Costs;
+use limits::FarmCosts;
 
 // The unopened farm, the same one each time.
 fn unopened_farm() -> Farm
@@ -26,7 +26,7 @@ fn unopened_farm() -> Farm
     Farm {
         opened: false,
         nodes: 0,
-        costs: Costs {
+        costs: FarmCosts {
             send: 0,
             compute: 0,
             linksetup: 0,
@@ -84,7 +84,7 @@ fn columns(held: [u64; 32], allowances: [u64; 32], show: u64) -> Answer
 
 impl Farm {
     // Opening: questions 1, 2 and 3 in that order.
-    pub fn open(nodes: u64, costs: Costs, allowances: &[u64]) -> Reply
+    pub fn open(nodes: u64, costs: FarmCosts, allowances: &[u64]) -> Reply
         ensures { λ r. ⌜ Replies r (openSaid nodes costs (now (allowances .entry))) (openFarm nodes costs (now (allowances .entry))) ⌝ }
     {
         if !between(1, nodes, 64) {

@@ -16,7 +16,7 @@ use crate::Timetable;
 use crate::calls::refused;
 use crate::passing::passes;
 use limits::between;
-use shares::Costs;
+use limits::FarmCosts;
 use timetable::Due;
 use timetable::begin::begun_by;
 use timetable::begin::due;
@@ -102,7 +102,7 @@ fn showing(farm: Farm, room: usize) -> Issue
     }
 }
 
-fn costs_of(farm: Farm) -> Costs
+fn costs_of(farm: Farm) -> FarmCosts
     ensures { λ r. ⌜ r ≡ farm .costs ⌝ }
 {
     farm.costs

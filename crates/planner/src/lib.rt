@@ -6,7 +6,7 @@ mod offers;
 mod passing;
 mod withdraw;
 
-use shares::Costs;
+use limits::FarmCosts;
 use timetable::Due;
 use walk::Chunk;
 use walk::Job;
@@ -16,7 +16,7 @@ use walk::Job;
 pub struct Farm {
     pub opened: bool,
     pub nodes: usize,
-    pub costs: Costs,
+    pub costs: FarmCosts,
     pub shows: usize,
     pub allowances: [u64; 32],
     pub held: [u64; 32],

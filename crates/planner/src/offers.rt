@@ -20,7 +20,7 @@ use limits::between;
 use limits::deadline_within;
 use limits::place_left;
 use queue::new_job;
-use shares::Costs;
+use limits::FarmCosts;
 use walk::Busy;
 use walk::Job;
 use walk::Terms;
@@ -44,7 +44,7 @@ fn compute_or(farms: u64, cost: ComputeCost) -> u64
 }
 
 // The answer to an accepted offer.
-fn yes(costs: Costs, job: Job) -> Answer
+fn yes(costs: FarmCosts, job: Job) -> Answer
     requires { ⌜ Sends costs job ⌝ }
     ensures { λ r. ⌜ said r ≡ yesOf costs job ⌝ }
 {

@@ -11,7 +11,7 @@ use lib.Dec.{leb, eqb}
 use lib.ListN.{length, getD, drop, replicate, length-replicate}
 use lib.Seq.{take-at}
 use Rattle.lists.specs.Laws.{map-join}
-use Rattle.shares.specs.declared.Costs.{Costs}
+use Rattle.limits.specs.declared.FarmCosts.{FarmCosts}
 use Rattle.walk.specs.declared.Chunk.{Chunk}
 use Rattle.walk.specs.Model.{noChunk}
 use Rattle.planner.specs.declared.Farm.{Farm}
@@ -266,7 +266,7 @@ collect-prints {A} g f (l ∷ ls) =
 -- of every line in its turn, what r reads is what is noted of the call that it is; it reads nothing of `no 11` and of an opening
 pub record Reading {A : Type 0} (r : Farm → List ℕ → Print → List A) (noted : History → List A) : Type 0 where
   pub unread : (f : Farm) (ns : List ℕ) → r f ns (answer (refused 11)) ≡ []
-  pub opens : (f : Farm) (ns : List ℕ) (n : ℕ) (c : Costs) (al : List ℕ) → r f ns (answer (openSaid n c al)) ≡ []
+  pub opens : (f : Farm) (ns : List ℕ) (n : ℕ) (c : FarmCosts) (al : List ℕ) → r f ns (answer (openSaid n c al)) ≡ []
   pub starts : (f : Farm) → noted (opening f) ≡ []
   pub calls : (w : History) (k : Kind) (ns al : List ℕ) → noted w ++ collect (r (w .farm) ns) (calledPrints (w .farm) k ns al) ≡ noted (run w (callOf k ns))
 
@@ -357,7 +357,7 @@ Speaks s w = (s .word ≡ w) ⊎ (s .word ≡ No)
 speaks-none : {A : Type 0} (g : Word → List ℕ → List A) (s : Said) (w : Word) → Speaks s w → ((vs : List ℕ) → g w vs ≡ []) → ((vs : List ℕ) → g No vs ≡ []) → g (s .word) (s .values) ≡ []
 speaks-none g s w h p q = ⊎-elim (λ e. rw e (p (s .values))) (λ e. rw e (q (s .values))) h
 
-open-speaks : (n : ℕ) (c : Costs) (al : List ℕ) → Speaks (openSaid n c al) Open
+open-speaks : (n : ℕ) (c : FarmCosts) (al : List ℕ) → Speaks (openSaid n c al) Open
 unfolding openSaid
 open-speaks n c al = go (between 1 n 64) (costsWithin c) (showsWithin al)
   where

@@ -12,7 +12,7 @@ use borrow.Author.Tests.{eqb-false}
 use lib.Dec.{leb, eqb}
 use lib.ListN.{length, getD, drop, replicate, List·getD-append}
 use Rattle.lists.specs.Laws.{All, all-map, all-of, all-image, at-member}
-use Rattle.shares.specs.declared.Costs.{Costs}
+use Rattle.limits.specs.declared.FarmCosts.{FarmCosts}
 use Rattle.limits.specs.Says.{between-is}
 use Rattle.walk.specs.declared.Chunk.{Chunk}
 use Rattle.planner.specs.declared.Farm.{Farm}
@@ -199,7 +199,7 @@ account-farm f a h = ap (λ (x : Answered). x .farm) (answered-read f a kind.Acc
 
 -- ---- The opening
 
-granted-opens : (n : ℕ) (c : Costs) (al : List ℕ) → openSaid n c al .number ≡ 0 → openFarm n c al ≡ openedWith n c al
+granted-opens : (n : ℕ) (c : FarmCosts) (al : List ℕ) → openSaid n c al .number ≡ 0 → openFarm n c al ≡ openedWith n c al
 unfolding openSaid openFarm
 granted-opens n c al = go (between 1 n 64) (costsWithin c) (showsWithin al)
   where

@@ -5,7 +5,7 @@ use mathlib.Core.Bool.{Bool, true, false, cond, false≢true}
 use Prim.Native.Nat.{ℕ}
 use lib.Dec.{leb, eqb}
 use lib.ListN.{length, getD, replicate, length-replicate}
-use Rattle.shares.specs.declared.Costs.{Costs}
+use Rattle.limits.specs.declared.FarmCosts.{FarmCosts}
 use Rattle.walk.specs.Model.{noChunk}
 use Rattle.planner.specs.declared.Farm.{Farm}
 use Rattle.planner.specs.declared.Offer.{Offer}
@@ -38,7 +38,7 @@ pub unopened-reachable : Reachable unopened
 unopened-reachable o = absurd (false≢true o)
 
 -- An opening hands back a farm that it reached, or one that is not opened.
-opening-reachable : (n : ℕ) (c : Costs) (al : List ℕ) → Reachable (openFarm n c al)
+opening-reachable : (n : ℕ) (c : FarmCosts) (al : List ℕ) → Reachable (openFarm n c al)
 unfolding openSaid openFarm
 opening-reachable n c al = go (between 1 n 64) (costsWithin c) (showsWithin al) refl refl refl
   where

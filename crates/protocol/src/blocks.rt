@@ -22,14 +22,14 @@ use lines::step::opening;
 use planner::Farm;
 use reading::Kind;
 use reading::find;
-use shares::Costs;
+use limits::FarmCosts;
 use timetable::lines::write_rows;
 
 // The start of a day: an unopened farm, and nothing of a line. The farm is the one that a refused opening hands back.
 pub fn start() -> Session
     ensures { λ r. ⌜ (r .farm ≡ unopened) × (pendingOf (r .rest) ≡ part []) ⌝ }
 {
-    let costs = Costs {
+    let costs = FarmCosts {
         send: 0,
         compute: 0,
         linksetup: 0,

@@ -6,7 +6,7 @@ use native.Mathlib.Omega.{arith}
 use lib.ListN.{length}
 use lib.Seq.{length-take-le}
 use Rattle.lists.specs.Laws.{All, Pairs, Differ, all-map, all-both, pairs-map, perm-all, perm-pairs}
-use Rattle.shares.specs.declared.Costs.{Costs}
+use Rattle.limits.specs.declared.FarmCosts.{FarmCosts}
 use Rattle.shares.specs.Model.{sum}
 use Rattle.shares.specs.Lists.{Positive}
 use Rattle.limits.specs.Model.{CostsWithin}
@@ -109,18 +109,18 @@ job-paired g j s w =
     let b : length (units (j .booking)) ≡ j .booking .count = length-take-le (j .booking .count) (j .booking .shares) (omega (arith, s .shares, w .count .1)) in
     (a ∙ sym b, omega (arith, w .count .0))
 
-pub fits-behind : (b : Busy) (c : Costs) (j : Job) → Paired j → All (Fits b) (spansOf c j) → Behind b j
+pub fits-behind : (b : Busy) (c : FarmCosts) (j : Job) → Paired j → All (Fits b) (spansOf c j) → Behind b j
 fits-behind b c j p h =
     let s = j .booking .start in
     (spans-first (ownCosts c j) (j .number) (j .show) s b s (chosen (j .booking)) (units (j .booking)) (p .0) (p .1) h, spans-free (ownCosts c j) (j .number) (j .show) s b s (chosen (j .booking)) (units (j .booking)) (p .0) h)
 
-behind-fits : (b : Busy) (c : Costs) (j : Job) → Behind b j → All (Fits b) (spansOf c j)
+behind-fits : (b : Busy) (c : FarmCosts) (j : Job) → Behind b j → All (Fits b) (spansOf c j)
 behind-fits b c j h =
     let s = j .booking .start in
     spans-fit (ownCosts c j) (j .number) (j .show) s b s (chosen (j .booking)) (units (j .booking)) (h .0) (h .1)
 
 -- The sweep in order of start passes exactly if each job is behind the free times and all spans are apart.
-pub says-sweep : (c : Costs) (b : Busy) (js : List Job) → length (b .free) ≡ 64 → All (λ (j : Job). Paired j × All (Proper 64) (spansOf c j)) js
+pub says-sweep : (c : FarmCosts) (b : Busy) (js : List Job) → length (b .free) ≡ 64 → All (λ (j : Job). Paired j × All (Proper 64) (spansOf c j)) js
     → Says (fitAll b (spansOfAll c (byStart js))) (All (Behind b) js × Pairs Apart (spansOfAll c js))
 says-sweep c b js l g =
     let d : List·Permᴰ js (byStart js) = by-start-perm js in

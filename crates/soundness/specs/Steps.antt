@@ -12,6 +12,7 @@ use lib.ListN.{length, getD, take, drop, set, length-drop}
 use lib.Seq.{slice, slice-cons, slice-empty, take-all, take-suc, take-suc-set, drop-cons, drop-length, getD-take, length-take-le}
 use Rattle.lists.specs.Laws.{All, all-map, all-front}
 use Rattle.shares.specs.declared.Costs.{Costs}
+use Rattle.limits.specs.declared.FarmCosts.{FarmCosts}
 use Rattle.shares.specs.Model.{sendEnd, chunkFinish, finish, sum}
 use Rattle.limits.specs.Model.{allAtMost, allAtLeast, CostsWithin}
 use Rattle.keys.specs.declared.Key.{Key}
@@ -20,7 +21,7 @@ use Rattle.booking.specs.Best.{freeAt, chosen, units}
 use Rattle.walk.specs.declared.Job.{Job}
 use Rattle.walk.specs.declared.Busy.{Busy}
 use Rattle.walk.specs.declared.Chunk.{Chunk}
-use Rattle.walk.specs.Model.{greatest, noJob, ownCosts, finishOf, chunkAt, Span, placed, spansOf, spansOfAll, after, byStart, inOrder, fitAll}
+use Rattle.walk.specs.Model.{greatest, noJob, costsFor, ownCosts, finishOf, chunkAt, Span, placed, spansOf, spansOfAll, after, byStart, inOrder, fitAll}
 use Rattle.walk.specs.Chunks.{Sends, linesFrom, lines-next, lines-none}
 use Rattle.soundness.specs.declared.Figures.{Figures}
 use Rattle.soundness.specs.declared.Fit.{Fit}
@@ -31,17 +32,19 @@ use Rattle.soundness.specs.Sound.{Usable, says-job-within, says-jobs}
 -- ---- Promises
 
 -- a job whose sends and finishes up to the first that is late do not wrap
-pub record NoOverflow (c : Costs) (j : Job) : Type 0 where
-  pub costs : CostsWithin (ownCosts c j)
+pub record NoOverflow (c : FarmCosts) (j : Job) : Type 0 where
+  pub costs : CostsWithin c
+  pub compute : j .compute ≤ 1_000_000
   pub start : j .booking .start ≤ greatest
   pub deadline : j .deadline ≤ greatest
   pub count : j .booking .count ≤ 64
 
--- a job that passes by itself: its nodes have free times, and no finish is past the time range
-pub record Bounded (c : Costs) (j : Job) : Type 0 where
+-- a job that passes by itself: its nodes have free times, no finish is past the time range, and the way back is within its limit
+pub record Bounded (c : FarmCosts) (j : Job) : Type 0 where
   pub count : j .booking .count ≤ 64
   pub nodes : All (λ (k : ℕ). (1 ≤ k) × (k ≤ 64)) (chosen (j .booking))
   pub ends : finishOf c j ≤ greatest
+  pub returning : c .returning ≤ 10_000
 
 -- what a survey of the first n jobs comes to
 pub record Surveys (g : Figures) (js : List Job) (n : ℕ) (r : Survey) : Type 0 where
@@ -53,21 +56,21 @@ abbrev pub Inside : ℕ → Key → Type 0
 Inside n k = k .place < n
 
 -- r says of a job's chunks behind b whether they fit, and what they leave to all that follow
-pub record FitResult (c : Costs) (b : Busy) (j : Job) (r : Fit) : Type 0 where
+pub record FitResult (c : FarmCosts) (b : Busy) (j : Job) (r : Fit) : Type 0 where
   pub rest : (xs : List Span) → fitAll b (spansOf c j ++ xs) ≡ r .fits && fitAll (r .busy) xs
 
 -- ---- Sums
 
--- 2^32 - 1 units at a million ticks each
-product-small : (u e : ℕ) → u < 4294967296 → e ≤ 1000000 → u * e ≤ 4294967295000000
+-- 2^32 - 1 units at 1,010,000 ticks each, the most that a unit is computed and brought back in
+product-small : (u e : ℕ) → u < 4294967296 → e ≤ 1010000 → u * e ≤ 4337916967950000
 product-small u e h k =
-    let p : u * e ≤ u * 1000000 = mul-le-mul-left u k in
+    let p : u * e ≤ u * 1010000 = mul-le-mul-left u k in
     omega arith
 
 -- The finish of a chunk of fewer than 2^32 units that is sent within the time range does not wrap.
-pub finish-small : (c : Costs) (t a : ℕ) → CostsWithin c → t ≤ greatest → a < 4294967296 → chunkFinish c t a < 18446744073709551616
-finish-small c t a w h k =
-    omega (arith, product-small a (c .send) k (omega (arith, w .send .1)), product-small a (c .compute) k (w .compute .1), w .linksetup, w .nodesetup)
+pub finish-small : (c : FarmCosts) (p t a : ℕ) → CostsWithin c → p ≤ 1_000_000 → t ≤ greatest → a < 4294967296 → chunkFinish (costsFor c p) t a < 18446744073709551616
+finish-small c p t a w l h k =
+    omega (arith, product-small a (c .send) k (omega (arith, w .send .1)), product-small a (p + c .returning) k (omega (arith, w .returning)), w .linksetup, w .nodesetup)
 
 -- ---- The nodes of a booking
 
@@ -136,7 +139,7 @@ module _ (c : Costs) (z d s t : ℕ) (us : List ℕ) (i n : ℕ) (h : i < n) (k 
   shares-late l = rw (slice-cons i n us 0 h k) (kept-late c z d s t (getD us i 0) (slice (suc i) n us) l)
 
 -- The same of a job, with the chunk that the code makes.
-module _ (c : Costs) (j : Job) (s t i : ℕ) (h : i < j .booking .count) (k : j .booking .count ≤ length (j .booking .shares)) (x : Chunk) (e : x ≡ chunkAt c j i t) where
+module _ (c : FarmCosts) (j : Job) (s t i : ℕ) (h : i < j .booking .count) (k : j .booking .count ≤ length (j .booking .shares)) (x : Chunk) (e : x ≡ chunkAt c j i t) where
   pub shares-step : (a : ℕ) → a ≡ getD (j .booking .shares) i 0 → 1 ≤ a → x .finish ≤ j .deadline
       → keptBehind (ownCosts c j) (j .size) (j .deadline) s t (slice i (j .booking .count) (j .booking .shares)) ≡ keptBehind (ownCosts c j) (j .size) (j .deadline) (s + a) (x .sent) (slice (i + 1) (j .booking .count) (j .booking .shares))
   shares-step a q l m = rw (e, q) (shares-more (ownCosts c j) (j .size) (j .deadline) s t (j .booking .shares) i (j .booking .count) h k (rw q at l) (rw e at m))
@@ -159,7 +162,8 @@ pub no-overflow-of : (g : Figures) (j : Job) → Usable g → jobWithin g j ≡ 
 no-overflow-of g j u e =
     let w = says-job-within g j .yields e in
     record {
-      costs = record { send = u .costs .send; compute = w .compute; linksetup = u .costs .linksetup; nodesetup = u .costs .nodesetup };
+      costs = u .costs;
+      compute = w .compute .1;
       start = w .start;
       deadline = w .deadline;
       count = w .count .1;
@@ -172,16 +176,18 @@ all-bounded g js u e =
       count = h .0 .count .1;
       nodes = all-map (λ k b. (b .0, omega (arith, b .1, u .nodes))) (chosen (j .booking)) (h .0 .nodes);
       ends = omega (arith, h .1 .ends, h .0 .deadline);
+      returning = u .costs .returning;
     }) js (says-jobs g js .yields e)
 
 -- Their chunks can be worked out.
-pub bounded-sends : (c : Costs) (j : Job) → Bounded c j → length (j .booking .nodes) ≡ 64 → length (j .booking .shares) ≡ 64 → Sends c j
+pub bounded-sends : (c : FarmCosts) (j : Job) → Bounded c j → length (j .booking .nodes) ≡ 64 → length (j .booking .shares) ≡ 64 → Sends c j
 bounded-sends c j b n u = record {
   few = b .count;
   nodes = length-take-le (j .booking .count) (j .booking .nodes) (omega (arith, b .count));
   shares = length-take-le (j .booking .count) (j .booking .shares) (omega (arith, b .count));
   known = b .nodes;
   ends = b .ends;
+  returning = b .returning;
 }
 
 -- A job's test ends at the first part that fails.
@@ -263,13 +269,13 @@ differ-none xs = rw (drop-length xs)
 
 -- Of a job's chunks those from the i-th on are left, behind `now`, the next one sent from t on: whether all fit behind `busy` is whether these fit
 -- behind `now`, whatever follows.
-pub record Fitting (c : Costs) (busy : Busy) (j : Job) (now : Busy) (t i : ℕ) : Type 0 where
+pub record Fitting (c : FarmCosts) (busy : Busy) (j : Job) (now : Busy) (t i : ℕ) : Type 0 where
   pub rest : (xs : List Span) → fitAll busy (spansOf c j ++ xs) ≡ fitAll now (placed (j .booking .start) (linesFrom c j i t) ++ xs)
 
-pub fitting-start : (c : Costs) (busy : Busy) (j : Job) → Fitting c busy j busy (j .booking .start) 0
+pub fitting-start : (c : FarmCosts) (busy : Busy) (j : Job) → Fitting c busy j busy (j .booking .start) 0
 fitting-start c busy j = record { rest = λ xs. refl }
 
-module _ (c : Costs) (busy : Busy) (j : Job) (now : Busy) (t i : ℕ) (u : Fitting c busy j now t i) (s : Sends c j) where
+module _ (c : FarmCosts) (busy : Busy) (j : Job) (now : Busy) (t i : ℕ) (u : Fitting c busy j now t i) (s : Sends c j) where
   module _ (h : i < j .booking .count) (x : Chunk) (e : x ≡ chunkAt c j i t) where
     fit-next : (xs : List Span)
         → fitAll busy (spansOf c j ++ xs) ≡ leb (now .link) t && leb (freeAt (now .free) (x .node)) (j .booking .start) && fitAll (after now x) (placed (j .booking .start) (linesFrom c j (i + 1) (x .sent)) ++ xs)
@@ -294,7 +300,7 @@ module _ (c : Costs) (busy : Busy) (j : Job) (now : Busy) (t i : ℕ) (u : Fitti
 
 -- ---- The jobs by their starts
 
-module _ (c : Costs) (b : Busy) (jobs : List Job) (keys : List Key) (i n : ℕ) (h : i < n) (few : n ≤ length jobs) (fits : n ≤ length keys) (inside : All (Inside n) (take n keys)) where
+module _ (c : FarmCosts) (b : Busy) (jobs : List Job) (keys : List Key) (i n : ℕ) (h : i < n) (few : n ≤ length jobs) (fits : n ≤ length keys) (inside : All (Inside n) (take n keys)) where
   pub key-inside : getD keys i noKey .place < n
   key-inside = all-front noKey (Inside n) keys n i h fits inside
 
@@ -313,7 +319,7 @@ module _ (c : Costs) (b : Busy) (jobs : List Job) (keys : List Key) (i n : ℕ) 
     pub turn-stop : r .fits ≡ false → fitAll b (spansOfAll c (inOrder (take n jobs) (slice i n keys))) ≡ false
     turn-stop e = ap (fitAll b) turn-cons ∙ s .rest _ ∙ rw e
 
-pub turn-none : (c : Costs) (b : Busy) (js : List Job) (keys : List Key) (n : ℕ) → fitAll b (spansOfAll c (inOrder js (slice n n keys))) ≡ true
+pub turn-none : (c : FarmCosts) (b : Busy) (js : List Job) (keys : List Key) (n : ℕ) → fitAll b (spansOfAll c (inOrder js (slice n n keys))) ≡ true
 unfolding fitAll spansOfAll
 turn-none c b js keys n = rw (slice-empty n keys)
 

@@ -7,6 +7,7 @@ use native.Mathlib.Omega.{arith}
 use lib.ListN.{length}
 use Rattle.lists.specs.Laws.{All, Pairs, all-map, all-both, all-append, all-join, pairs-parts, pairs-join, pairs-both, pairs-across}
 use Rattle.shares.specs.declared.Costs.{Costs}
+use Rattle.limits.specs.declared.FarmCosts.{FarmCosts}
 use Rattle.shares.specs.Model.{sendEnd}
 use Rattle.booking.specs.Best.{freeAt, chosen, units}
 use Rattle.walk.specs.declared.Job.{Job}
@@ -18,13 +19,13 @@ use Rattle.walk.specs.Chain.{Fits, Proper, Follows}
 -- ---- The spans of several jobs
 
 -- What holds of all spans holds of each job's.
-pub spans-each : (P : Span → Type 0) (c : Costs) (js : List Job) → All P (spansOfAll c js) → All (λ (j : Job). All P (spansOf c j)) js
+pub spans-each : (P : Span → Type 0) (c : FarmCosts) (js : List Job) → All P (spansOfAll c js) → All (λ (j : Job). All P (spansOf c j)) js
 unfolding spansOfAll
 spans-each P c [] h = tt
 spans-each P c (j ∷ js) h = let r = all-append P (spansOf c j) (spansOfAll c js) h in (r .0, spans-each P c js (r .1))
 
 -- What holds of each job's spans holds of all.
-pub spans-all : (P : Span → Type 0) (c : Costs) (js : List Job) → All (λ (j : Job). All P (spansOf c j)) js → All P (spansOfAll c js)
+pub spans-all : (P : Span → Type 0) (c : FarmCosts) (js : List Job) → All (λ (j : Job). All P (spansOf c j)) js → All P (spansOfAll c js)
 unfolding spansOfAll
 spans-all P c [] h = tt
 spans-all P c (j ∷ js) h = all-join P (spansOf c j) (spansOfAll c js) (h .0) (spans-all P c js (h .1))
@@ -34,7 +35,7 @@ append-swap xs ys zs =
     subst (λ l. List·Permᴰ l (ys ++ (xs ++ zs))) (append-assoc xs ys zs) (subst (List·Permᴰ ((xs ++ ys) ++ zs)) (append-assoc ys xs zs) (Permᴰ·append-right zs (List·Permᴰ·append-comm xs ys)))
 
 -- The same jobs in another order have the same spans in another order.
-pub spans-perm : (c : Costs) {xs ys : List Job} → List·Permᴰ xs ys → List·Permᴰ (spansOfAll c xs) (spansOfAll c ys)
+pub spans-perm : (c : FarmCosts) {xs ys : List Job} → List·Permᴰ xs ys → List·Permᴰ (spansOfAll c xs) (spansOfAll c ys)
 unfolding spansOfAll
 spans-perm c List·Permᴰ·nil = List·Permᴰ·nil
 spans-perm c (List·Permᴰ·cons {a = a} {b = b} {l₁ = l₁} {l₂ = l₂} e d) =
@@ -113,7 +114,7 @@ node-after x y p h a e =
     elim (decLe (x .chunk .finish) (y .from)) [ yes d ↦ d | no d ↦ absurd (a .node e (y .from) (h, omega arith) (omega arith, omega (arith, p .begins, p .sends, p .ends))) ]
 
 -- The spans of one job that are apart come one after the other.
-job-follows : (c : Costs) (j : Job) → All (Proper 64) (spansOf c j) → Pairs Apart (spansOf c j) → Pairs Follows (spansOf c j)
+job-follows : (c : FarmCosts) (j : Job) → All (Proper 64) (spansOf c j) → Pairs Apart (spansOf c j) → Pairs Follows (spansOf c j)
 job-follows c j p a =
     let s = j .booking .start in
     let tile = spans-tile (ownCosts c j) (j .number) (j .show) s s (chosen (j .booking)) (units (j .booking)) in
@@ -143,7 +144,7 @@ ends-before c j s f z t ks xs (y ∷ ys) h e l p a =
     all-map (λ x m. (omega arith, all-map (λ w n. omega arith) ys (l .1))) (placed f (chunksFrom c j s t ks xs)) (spans-clear c j s f z t ks xs h clear)
 
 -- The spans of a job that starts no earlier, apart from those of the first, come after them.
-later-job : (c : Costs) (i j : Job) → i .booking .start ≤ j .booking .start → All (Proper 64) (spansOf c j) → All (λ (x : Span). All (Apart x) (spansOf c j)) (spansOf c i)
+later-job : (c : FarmCosts) (i j : Job) → i .booking .start ≤ j .booking .start → All (Proper 64) (spansOf c j) → All (λ (x : Span). All (Apart x) (spansOf c j)) (spansOf c i)
     → All (λ (x : Span). All (Follows x) (spansOf c j)) (spansOf c i)
 later-job c i j h p a =
     let s = i .booking .start in
@@ -161,7 +162,7 @@ later-job c i j h p a =
         let both : All (λ (y : Span). Apart x y × (x .chunk .sent ≤ y .chunk .start)) (spansOf c j) = all-both (λ y q r. (q, r)) (spansOf c j) b l in
         all-both (λ y k r. record { send = r .1; node = node-after x y (k .1) (omega arith) (r .0) }) (spansOf c j) ys both
 
-later-jobs : (c : Costs) (i : Job) (js : List Job) → All (λ (j : Job). i .booking .start ≤ j .booking .start) js → All (λ (j : Job). All (Proper 64) (spansOf c j)) js
+later-jobs : (c : FarmCosts) (i : Job) (js : List Job) → All (λ (j : Job). i .booking .start ≤ j .booking .start) js → All (λ (j : Job). All (Proper 64) (spansOf c j)) js
     → All (λ (x : Span). All (Apart x) (spansOfAll c js)) (spansOf c i) → All (λ (x : Span). All (Follows x) (spansOfAll c js)) (spansOf c i)
 unfolding spansOfAll
 later-jobs c i [] h p a = all-map (λ x n. tt) (spansOf c i) a
@@ -171,7 +172,7 @@ later-jobs c i (j ∷ js) h p a =
     all-both (λ x m n. all-join (Follows x) (spansOf c j) (spansOfAll c js) m n) (spansOf c i) near far
 
 -- The spans of jobs in order of start, where they are apart, come one after the other.
-pub apart-follows : (c : Costs) (js : List Job) → All (λ (j : Job). All (Proper 64) (spansOf c j)) js → Pairs (λ (a b : Job). a .booking .start ≤ b .booking .start) js
+pub apart-follows : (c : FarmCosts) (js : List Job) → All (λ (j : Job). All (Proper 64) (spansOf c j)) js → Pairs (λ (a b : Job). a .booking .start ≤ b .booking .start) js
     → Pairs Apart (spansOfAll c js) → Pairs Follows (spansOfAll c js)
 unfolding spansOfAll
 apart-follows c [] p h a = tt

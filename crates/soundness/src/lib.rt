@@ -18,7 +18,7 @@ use numbers::least;
 use numbers::wide;
 use numbers::wide8;
 use numbers::wide32;
-use shares::Costs;
+use limits::FarmCosts;
 use walk::Busy;
 use walk::Job;
 use walk::Time;
@@ -31,7 +31,7 @@ pub struct Figures {
     pub shows: usize,
     pub used: u64,
     pub clock: u64,
-    pub costs: Costs,
+    pub costs: FarmCosts,
 }
 
 // Whether each job passes by itself and, if so, the jobs' numbers.
@@ -90,7 +90,7 @@ fn job_within(figures: Figures, job: Job) -> bool
 }
 
 // Whether the shares are at least 1 each and add up to the size, and each chunk finishes by the deadline.
-fn shares_kept(costs: Costs, job: Job) -> bool
+fn shares_kept(costs: FarmCosts, job: Job) -> bool
     requires { ⌜ NoOverflow costs job ⌝ }
     ensures { λ r. ⌜ r ≡ sharesKept (ownCosts costs job) (job .size) (job .deadline) (job .booking .start) (units (job .booking)) ⌝ }
 {
@@ -193,7 +193,7 @@ fn all_differ(xs: &[u64]) -> bool
 // ---- The jobs behind one another
 
 // The chunks of a job, each behind what those before it have left.
-fn job_fits(costs: Costs, busy: Busy, job: Job) -> Fit
+fn job_fits(costs: FarmCosts, busy: Busy, job: Job) -> Fit
     requires { ⌜ Bounded costs job ⌝ }
     ensures { λ r. ⌜ FitResult costs busy job r ⌝ }
 {
@@ -231,7 +231,7 @@ fn job_fits(costs: Costs, busy: Busy, job: Job) -> Fit
 }
 
 // The jobs in the order of the keys, each behind those before it.
-fn jobs_fit(costs: Costs, busy: Busy, jobs: [Job; 128], keys: [Key; 128], count: usize) -> bool
+fn jobs_fit(costs: FarmCosts, busy: Busy, jobs: [Job; 128], keys: [Key; 128], count: usize) -> bool
     requires { ⌜ (count ≤ 128) × All (Bounded costs) (take count jobs) × All (Inside count) (take count keys) ⌝ }
     ensures { λ r. ⌜ r ≡ fitAll busy (spansOfAll costs (inOrder (take count jobs) (take count keys))) ⌝ }
 {
@@ -251,7 +251,7 @@ fn jobs_fit(costs: Costs, busy: Busy, jobs: [Job; 128], keys: [Key; 128], count:
 }
 
 // The jobs by their starts, one after the other. They mostly stand in that order already.
-fn in_turn(costs: Costs, busy: Busy, jobs: [Job; 128], count: usize) -> bool
+fn in_turn(costs: FarmCosts, busy: Busy, jobs: [Job; 128], count: usize) -> bool
     requires { ⌜ (count ≤ 128) × All (Bounded costs) (take count jobs) ⌝ }
     ensures { λ r. ⌜ r ≡ fitAll busy (spansOfAll costs (byStart (take count jobs))) ⌝ }
 {

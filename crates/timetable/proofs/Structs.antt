@@ -1,14 +1,14 @@
 -- The structs of lines and jobs, for derivations.
 use Rattle.timetable.proofs.Value.{Struct}
-use Rattle.shares.proofs.Costs as Costs
-use Rattle.shares.proofs.Costs.Laws as Costs′
+use Rattle.limits.proofs.FarmCosts as FarmCosts
+use Rattle.limits.proofs.FarmCosts.Laws as FarmCosts′
 use Rattle.walk.proofs.Chunk as Chunk
 use Rattle.walk.proofs.Chunk.Laws as Chunk′
 use Rattle.walk.proofs.Job as Job
 use Rattle.walk.proofs.Job.Laws as Job′
 
 abbrev pub costs : Struct
-costs = record { struct = Costs.the-type; laws = Costs′.the-laws; copy = Costs′.the-copy; plain = Costs′.the-plain }
+costs = record { struct = FarmCosts.the-type; laws = FarmCosts′.the-laws; copy = FarmCosts′.the-copy; plain = FarmCosts′.the-plain }
 
 abbrev pub chunk : Struct
 chunk = record { struct = Chunk.the-type; laws = Chunk′.the-laws; copy = Chunk′.the-copy; plain = Chunk′.the-plain }

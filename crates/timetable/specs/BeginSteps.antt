@@ -5,7 +5,7 @@ use Prim.Native.Nat.{ℕ, _+_, _-_, _≤_, _<_}
 use borrow.Author.Tests.{le-leb, lt-leb}
 use lib.ListN.{length, getD, take, drop}
 use Rattle.lists.specs.Laws.{All, front-next}
-use Rattle.shares.specs.declared.Costs.{Costs}
+use Rattle.limits.specs.declared.FarmCosts.{FarmCosts}
 use Rattle.walk.specs.declared.Job.{Job}
 use Rattle.walk.specs.declared.Busy.{Busy}
 use Rattle.walk.specs.declared.Chunk.{Chunk}
@@ -23,13 +23,13 @@ abbrev pub Few : Job → Type 0
 Few j = j .booking .count ≤ 64
 
 -- a job that can begin: its chunks can be worked out, its show has a cell, and the cell has room for what they add
-pub record Raises (c : Costs) (held : List ℕ) (j : Job) : Type 0 where
+pub record Raises (c : FarmCosts) (held : List ℕ) (j : Job) : Type 0 where
   pub sends : Sends c j
   pub show : (1 ≤ j .show) × (j .show ≤ 32)
   pub room : getD held (j .show - 1) 0 ≤ 10_000_000_000_000_000
 
 -- the same of several
-pub record RaisesAll (c : Costs) (held : List ℕ) (js : List Job) : Type 0 where
+pub record RaisesAll (c : FarmCosts) (held : List ℕ) (js : List Job) : Type 0 where
   pub sends : All (Sends c) js
   pub shows : All (λ (j : Job). (1 ≤ j .show) × (j .show ≤ 32)) js
   pub room : All (λ (j : Job). getD held (j .show - 1) 0 ≤ 64_000_000_000_000) js

@@ -5,7 +5,7 @@ use Prim.Native.Nat.{ℕ, _+_, _*_, _-_, _≤_, _<_}
 use native.Mathlib.Omega.{arith}
 use lib.ListN.{length, getD, take, drop}
 use Rattle.lists.specs.Laws.{front-next, front-none}
-use Rattle.shares.specs.declared.Costs.{Costs}
+use Rattle.limits.specs.declared.FarmCosts.{FarmCosts}
 use Rattle.keys.specs.declared.Key.{Key}
 use Rattle.keys.specs.Model.{noKey}
 use Rattle.walk.specs.declared.Job.{Job}
@@ -19,13 +19,13 @@ use Rattle.timetable.specs.LinesSteps.{named-all}
 
 -- where the loop over the first n keys stands at key i: the jobs left leave what all of them leave of the first free times and cells, and each job
 -- passed has added at most 64 times the greatest tick
-pub record Beginning (c : Costs) (jobs : List Job) (keys : List Key) (n : ℕ) (first : Busy) (held : List ℕ) (busy : Busy) (cells : List ℕ) (i : ℕ) : Type 0 where
+pub record Beginning (c : FarmCosts) (jobs : List Job) (keys : List Key) (n : ℕ) (first : Busy) (held : List ℕ) (busy : Busy) (cells : List ℕ) (i : ℕ) : Type 0 where
   pub size : length cells ≡ 32
   pub times : afters first (linesOfAll c (inOrder jobs (take n keys))) ≡ afters busy (linesOfAll c (inOrder jobs (drop i (take n keys))))
   pub ticks : raised held (spansOfAll c (inOrder jobs (take n keys))) ≡ raised cells (spansOfAll c (inOrder jobs (drop i (take n keys))))
   pub most : (k : ℕ) → getD cells k 0 ≤ getD held k 0 + i * 64_000_000_000_000
 
-module _ (c : Costs) (jobs : List Job) (keys : List Key) (n i : ℕ) (h : i < n) (f : n ≤ length keys) (first : Busy) (held : List ℕ) (busy : Busy) (cells : List ℕ) (x : Beginning c jobs keys n first held busy cells i) where
+module _ (c : FarmCosts) (jobs : List Job) (keys : List Key) (n i : ℕ) (h : i < n) (f : n ≤ length keys) (first : Busy) (held : List ℕ) (busy : Busy) (cells : List ℕ) (x : Beginning c jobs keys n first held busy cells i) where
   abbrev named : Job
   named = getD jobs (getD keys i noKey .place) noJob
 
@@ -52,7 +52,7 @@ module _ (c : Costs) (jobs : List Job) (keys : List Key) (n i : ℕ) (h : i < n)
       }
 
 -- At the end all have begun.
-pub beginning-all : (c : Costs) (jobs : List Job) (keys : List Key) (n i : ℕ) (first : Busy) (held : List ℕ) (busy : Busy) (cells : List ℕ) → n ≤ i → n ≤ length keys → Beginning c jobs keys n first held busy cells i
+pub beginning-all : (c : FarmCosts) (jobs : List Job) (keys : List Key) (n i : ℕ) (first : Busy) (held : List ℕ) (busy : Busy) (cells : List ℕ) → n ≤ i → n ≤ length keys → Beginning c jobs keys n first held busy cells i
     → (busy ≡ afters first (linesOfAll c (inOrder jobs (take n keys)))) × (cells ≡ raised held (spansOfAll c (inOrder jobs (take n keys)))) × (length cells ≡ 32)
 unfolding linesOfAll spansOfAll afters raised
 beginning-all c jobs keys n i first held busy cells h f x =

@@ -5,6 +5,7 @@ use Prim.Native.Nat.{ℕ, zero, suc, _+_, _*_, _-_, _≤_, _<_}
 use native.Mathlib.Omega.{arith}
 use lib.ListN.{length, getD, set, length-set}
 use Rattle.shares.specs.declared.Costs.{Costs}
+use Rattle.limits.specs.declared.FarmCosts.{FarmCosts}
 use Rattle.shares.specs.Model.{sendEnd, chunkFinish, finish}
 use Rattle.booking.specs.Best.{chosen, units}
 use Rattle.walk.specs.declared.Job.{Job}
@@ -48,20 +49,20 @@ raise-most c hs j s f t k (n ∷ ks) (a ∷ xs) e =
     let one : getD now k 0 ≤ getD hs k 0 + (chunkFinish c t a - f) = add-most hs (s - 1) k (chunkFinish c t a - f) in
     omega arith
 
-pub job-most : (c : Costs) (hs : List ℕ) (j : Job) (k : ℕ) → Sends c j → getD (raised hs (spansOf c j)) k 0 ≤ getD hs k 0 + 64_000_000_000_000
+pub job-most : (c : FarmCosts) (hs : List ℕ) (j : Job) (k : ℕ) → Sends c j → getD (raised hs (spansOf c j)) k 0 ≤ getD hs k 0 + 64_000_000_000_000
 job-most c hs j k x =
     omega (arith, x .few, x .nodes, raise-most (ownCosts c j) hs (j .number) (j .show) (j .booking .start) (j .booking .start) k (chosen (j .booking)) (units (j .booking)) (x .ends))
 
 -- where the loop over a job's chunks stands at chunk i, whose send begins at t: the chunks left raise the cells to what all of them make of the
 -- first ones, and what has been added is bounded
-pub record Raising (c : Costs) (j : Job) (first cells : List ℕ) (t i : ℕ) : Type 0 where
+pub record Raising (c : FarmCosts) (j : Job) (first cells : List ℕ) (t i : ℕ) : Type 0 where
   pub same : raised first (spansOf c j) ≡ raised cells (placed (j .booking .start) (linesFrom c j i t))
   pub ends : latestFrom c j i t ≤ greatest
   pub from : j .booking .start ≤ t
   pub most : getD cells (j .show - 1) 0 ≤ getD first (j .show - 1) 0 + i * greatest
 
 -- The next chunk raises its show's cell.
-pub raising-next : (c : Costs) (j : Job) (s : Sends c j) (first cells : List ℕ) (t i : ℕ) → i < j .booking .count → Raising c j first cells t i
+pub raising-next : (c : FarmCosts) (j : Job) (s : Sends c j) (first cells : List ℕ) (t i : ℕ) → i < j .booking .count → Raising c j first cells t i
     → Raising c j first (addTo cells (j .show - 1) (chunkAt c j i t .finish - j .booking .start)) (chunkAt c j i t .sent) (i + 1)
 unfolding raised
 raising-next c j s first cells t i h x =

@@ -7,6 +7,7 @@ use lib.ListN.{length, getD, take, drop, set, length-append, length-drop, length
 use lib.Seq.{take-suc-set, drop-set-lt, drop-drop, length-take-le, take-at, drop-at}
 use Rattle.lists.specs.Laws.{All, all-front, image-all, map-join, front-next, front-none}
 use Rattle.shares.specs.declared.Costs.{Costs}
+use Rattle.limits.specs.declared.FarmCosts.{FarmCosts}
 use Rattle.shares.specs.Model.{sendEnd}
 use Rattle.keys.specs.declared.Key.{Key}
 use Rattle.keys.specs.Model.{noKey}
@@ -32,7 +33,7 @@ filled-next l at i e x xs ys q h k =
 pub filled-all : {A : Type 0} (l : List A) (e : ℕ) → Filled l e [] e ≡ l
 filled-all l e = take-append-drop e l
 
-module _ (c : Costs) (j : Job) (s : Sends c j) (at : ℕ) where
+module _ (c : FarmCosts) (j : Job) (s : Sends c j) (at : ℕ) where
   abbrev end : ℕ
   end = at + j .booking .count
 
@@ -62,11 +63,11 @@ lines-length c n s t [] (a ∷ xs) e = absurd (omega arith)
 lines-length c n s t (k ∷ ks) [] e = absurd (omega arith)
 lines-length c n s t (k ∷ ks) (a ∷ xs) e = ap suc (lines-length c n s (sendEnd c t a) ks xs (omega arith))
 
-pub job-lines : (c : Costs) (j : Job) → Sends c j → length (linesOf c j) ≡ j .booking .count
+pub job-lines : (c : FarmCosts) (j : Job) → Sends c j → length (linesOf c j) ≡ j .booking .count
 job-lines c j s = lines-length (ownCosts c j) (j .number) (j .show) (j .booking .start) (chosen (j .booking)) (units (j .booking)) (s .nodes ∙ sym (s .shares)) ∙ s .shares
 
 -- So are those of several jobs.
-pub all-lines : (c : Costs) (js : List Job) → All (Sends c) js → length (linesOfAll c js) ≡ chunks js
+pub all-lines : (c : FarmCosts) (js : List Job) → All (Sends c) js → length (linesOfAll c js) ≡ chunks js
 unfolding linesOfAll chunks
 all-lines c [] h = refl
 all-lines c (j ∷ js) h = length-append (linesOf c j) (linesOfAll c js) ∙ omega (arith, job-lines c j (h .0), all-lines c js (h .1))
@@ -90,7 +91,7 @@ filled-length l xs n m f h =
     length-append (take n l) (xs ++ drop (n + m) l) ∙ omega (arith, f, length-append xs (drop (n + m) l), length-take-le n l (omega arith), length-drop (n + m) l)
 
 -- The first n jobs of an array, of which the one at place k comes next.
-module _ (c : Costs) (jobs : List Job) (n k : ℕ) (h : k < n) (f : n ≤ length jobs) where
+module _ (c : FarmCosts) (jobs : List Job) (n k : ℕ) (h : k < n) (f : n ≤ length jobs) where
   abbrev next : Job
   next = getD jobs k noJob
 
@@ -103,7 +104,7 @@ module _ (c : Costs) (jobs : List Job) (n k : ℕ) (h : k < n) (f : n ≤ length
       ap (λ (js : List Job). Filled l at (linesOfAll c js) e) (front-next noJob jobs n k h f)
       ∙ filled-more l (linesOf c next) (linesOfAll c (drop (k + 1) (take n jobs))) at (next .booking .count) e (job-lines c next (all-front noJob (Sends c) jobs n k h f a)) b d
 
-pub all-stored : (c : Costs) (jobs : List Job) (n k : ℕ) (l : List Chunk) (e : ℕ) → n ≤ k → n ≤ length jobs → Filled l e (linesOfAll c (drop k (take n jobs))) e ≡ l
+pub all-stored : (c : FarmCosts) (jobs : List Job) (n k : ℕ) (l : List Chunk) (e : ℕ) → n ≤ k → n ≤ length jobs → Filled l e (linesOfAll c (drop k (take n jobs))) e ≡ l
 unfolding linesOfAll
 all-stored c jobs n k l e h f =
     ap (λ (js : List Job). Filled l e (linesOfAll c js) e) (front-none jobs n k f h) ∙ filled-all l e
@@ -115,13 +116,13 @@ chunks-none jobs n k h f = ap chunks (front-none jobs n k f h)
 -- ---- The jobs that keys name, as rows
 
 -- where the loop over the first n keys stands at key k, with `at` rows written: those left fill the memory to what all make of the first
-pub record Writing (c : Costs) (jobs : List Job) (keys : List Key) (n : ℕ) (first rows : List (List ℕ)) (at k : ℕ) : Type 0 where
+pub record Writing (c : FarmCosts) (jobs : List Job) (keys : List Key) (n : ℕ) (first rows : List (List ℕ)) (at k : ℕ) : Type 0 where
   pub size : length rows ≡ length first
   pub same : Filled first 0 (map rowOf (linesOfAll c (inOrder jobs (take n keys)))) (chunks (inOrder jobs (take n keys)))
       ≡ Filled rows at (map rowOf (linesOfAll c (inOrder jobs (drop k (take n keys))))) (chunks (inOrder jobs (take n keys)))
   pub left : at + chunks (inOrder jobs (drop k (take n keys))) ≡ chunks (inOrder jobs (take n keys))
 
-module _ (c : Costs) (jobs : List Job) (keys : List Key) (n k : ℕ) (h : k < n) (f : n ≤ length keys) (first rows : List (List ℕ)) (at : ℕ) (x : Writing c jobs keys n first rows at k) where
+module _ (c : FarmCosts) (jobs : List Job) (keys : List Key) (n k : ℕ) (h : k < n) (f : n ≤ length keys) (first rows : List (List ℕ)) (at : ℕ) (x : Writing c jobs keys n first rows at k) where
   abbrev named : Job
   named = getD jobs (getD keys k noKey .place) noJob
 
@@ -151,7 +152,7 @@ module _ (c : Costs) (jobs : List Job) (keys : List Key) (n k : ℕ) (h : k < n)
       }
 
 -- At the end all rows are written.
-pub writing-all : (c : Costs) (jobs : List Job) (keys : List Key) (n k : ℕ) (first rows : List (List ℕ)) (at : ℕ) → n ≤ k → n ≤ length keys → Writing c jobs keys n first rows at k
+pub writing-all : (c : FarmCosts) (jobs : List Job) (keys : List Key) (n k : ℕ) (first rows : List (List ℕ)) (at : ℕ) → n ≤ k → n ≤ length keys → Writing c jobs keys n first rows at k
     → rows ≡ Filled first 0 (map rowOf (linesOfAll c (inOrder jobs (take n keys)))) (chunks (inOrder jobs (take n keys)))
 unfolding linesOfAll chunks
 writing-all c jobs keys n k first rows at h f x =

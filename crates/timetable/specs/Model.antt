@@ -4,7 +4,7 @@ use mathlib.Core.List.{List, [], _∷_, _++_}
 use mathlib.Core.Bool.{Bool, cond, not}
 use lib.Dec.{leb}
 use lib.ListN.{getD, set}
-use Rattle.shares.specs.declared.Costs.{Costs}
+use Rattle.limits.specs.declared.FarmCosts.{FarmCosts}
 use Rattle.walk.specs.declared.Job.{Job}
 use Rattle.walk.specs.declared.Chunk.{Chunk}
 use Rattle.walk.specs.Model.{Span, linesOf}
@@ -23,7 +23,7 @@ abbrev pub startsAfter : ℕ → Job → Bool
 startsAfter t j = not (startsBy t j)
 
 -- the lines of several jobs, in chunk order
-unfoldable pub linesOfAll : Costs → List Job → List Chunk
+unfoldable pub linesOfAll : FarmCosts → List Job → List Chunk
 linesOfAll c [] = []
 linesOfAll c (j ∷ js) = linesOf c j ++ linesOfAll c js
 

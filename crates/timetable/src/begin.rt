@@ -9,7 +9,7 @@ ghost use Rattle.timetable.specs.BeginSteps.{chunks, Few, Raises, Raises
 ghost use Rattle.timetable.specs.DueSteps.{IsDue};
 use crate::Due;
 use keys::Key;
-use shares::Costs;
+use limits::FarmCosts;
 use walk::Busy;
 use walk::Job;
 use walk::chunk_on;
@@ -74,7 +74,7 @@ pub fn line_count(jobs: [Job; 128], count: usize) -> usize
 
 // Raises the held ticks of a job's show: each of its chunks adds its finish minus the job's start. The cells are
 // lent, not copied.
-pub fn raise(costs: Costs, job: Job, held: &mut [u64; 32])
+pub fn raise(costs: FarmCosts, job: Job, held: &mut [u64; 32])
     requires { ⌜ Raises costs (now held) job ⌝ }
     ensures { λ _. ⌜ now (held .exit) ≡ raised (now (held .entry)) (spansOf costs job) ⌝ }
 {
@@ -102,7 +102,7 @@ pub fn raise(costs: Costs, job: Job, held: &mut [u64; 32])
 
 // The free times and the held ticks once the jobs that the first `count` keys name have begun, one after the other.
 pub fn begun_by(
-    costs: Costs,
+    costs: FarmCosts,
     busy: Busy,
     held: [u64; 32],
     jobs: [Job; 128],

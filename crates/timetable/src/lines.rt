@@ -10,7 +10,7 @@ ghost use Rattle.timetable.specs.Model.{linesOfAll, rowOf};
 ghost use Rattle.timetable.specs.BeginSteps.{chunks};
 ghost use Rattle.timetable.specs.LinesSteps.{Filled};
 use keys::Key;
-use shares::Costs;
+use limits::FarmCosts;
 use walk::Chunk;
 use walk::Job;
 use walk::chunk_at;
@@ -31,7 +31,7 @@ fn count_of(job: Job) -> usize
 }
 
 // Writes a job's lines from place `at` on.
-fn write_job(out: &mut [Chunk], at: usize, costs: Costs, job: Job)
+fn write_job(out: &mut [Chunk], at: usize, costs: FarmCosts, job: Job)
     requires { ⌜ Sends costs job × (at + job .booking .count ≤ length (now out)) ⌝ }
     ensures { λ _. ⌜ now (out .exit) ≡ take at (now (out .entry)) ++ (linesOf costs job ++ drop (at + job .booking .count) (now (out .entry))) ⌝ }
 {
@@ -47,7 +47,7 @@ fn write_job(out: &mut [Chunk], at: usize, costs: Costs, job: Job)
 }
 
 // Writes the lines of the first `count` jobs to the front.
-pub fn write_lines(out: &mut [Chunk], costs: Costs, jobs: [Job; 128], count: usize)
+pub fn write_lines(out: &mut [Chunk], costs: FarmCosts, jobs: [Job; 128], count: usize)
     requires { ⌜ (count ≤ 128) × All (Sends costs) (take count jobs) × (chunks (take count jobs) ≤ length (now out)) ⌝ }
     ensures { λ _. ⌜ now (out .exit) ≡ linesOfAll costs (take count jobs) ++ drop (chunks (take count jobs)) (now (out .entry)) ⌝ }
 {
@@ -63,7 +63,7 @@ pub fn write_lines(out: &mut [Chunk], costs: Costs, jobs: [Job; 128], count: usi
 
 // Writes a job's lines from place `at` on, each as a row of the record's seven numbers. It takes a slice, since a lent
 // array's length is known to the proof only where the array is made one.
-fn write_row_job(rows: &mut [[u64; 7]], at: usize, costs: Costs, job: Job)
+fn write_row_job(rows: &mut [[u64; 7]], at: usize, costs: FarmCosts, job: Job)
     requires { ⌜ Sends costs job × (at + job .booking .count ≤ length (now rows)) ⌝ }
     ensures { λ _. ⌜ now (rows .exit) ≡ Filled (now (rows .entry)) at (map rowOf (linesOf costs job)) (at + job .booking .count) ⌝ }
 {
@@ -91,7 +91,7 @@ fn write_row_job(rows: &mut [[u64; 7]], at: usize, costs: Costs, job: Job)
 // seven numbers.
 pub fn write_rows(
     rows: &mut [[u64; 7]; 1024],
-    costs: Costs,
+    costs: FarmCosts,
     jobs: [Job; 128],
     keys: [Key; 128],
     count: usize,

@@ -18,7 +18,7 @@ use Rattle.booking.specs.Booked.{best-some, book-is, book-iff}
 use Rattle.walk.specs.declared.Job.{Job}
 use Rattle.walk.specs.declared.Terms.{Terms}
 use Rattle.walk.specs.declared.Busy.{Busy}
-use Rattle.walk.specs.Model.{linesOf, byDeadline, deadlineOf, requestOf, step, busyAfter, booksAll}
+use Rattle.walk.specs.Model.{defaultCosts, linesOf, byDeadline, deadlineOf, requestOf, step, busyAfter, booksAll}
 use Rattle.walk.specs.Chain.{afters-length}
 use Rattle.walk.specs.Order.{Precedes, by-deadline-perm, by-deadline-sorted}
 use Rattle.walk.specs.WalkSteps.{Ready}
@@ -38,7 +38,7 @@ Fails w b [] = ⊥
 Fails w b (j ∷ js) = NoChoice (requestOf w b j) (b .free) ⊎ (Best (requestOf w b j) (b .free) (step w b j .booking) × Fails w (busyAfter w b j) js)
 
 -- one job: booked and best, or not booked and without a choice
-step-is : (w : Terms) (b : Busy) (j : Job) → answers (w .costs) (w .nodes) ≡ true → w .nodes ≤ length (b .free) → 1 ≤ j .size
+step-is : (w : Terms) (b : Busy) (j : Job) → answers (defaultCosts (w .costs)) (w .nodes) ≡ true → w .nodes ≤ length (b .free) → 1 ≤ j .size
     → ((leb 1 (step w b j .booking .count) ≡ false) × NoChoice (requestOf w b j) (b .free))
     ⊎ ((leb 1 (step w b j .booking .count) ≡ true) × Best (requestOf w b j) (b .free) (step w b j .booking))
 unfolding bookingOf
@@ -47,7 +47,7 @@ step-is w b j e h z =
     (book-is (requestOf w b j) (b .free) e h z)
 
 -- Costs and nodes for which the shares answer, and jobs of at least one unit.
-module _ (w : Terms) (e : answers (w .costs) (w .nodes) ≡ true) where
+module _ (w : Terms) (e : answers (defaultCosts (w .costs)) (w .nodes) ≡ true) where
   -- all are booked and best, or some job is without a choice
   turns-are : (b : Busy) (js : List Job) → All (λ (j : Job). 1 ≤ j .size) js → w .nodes ≤ length (b .free)
       → ((booksAll w b js ≡ true) × BestAll w b js) ⊎ ((booksAll w b js ≡ false) × Fails w b js)

@@ -14,6 +14,7 @@ use lib.Seq.{getD-set-same, getD-set-other}
 use Rattle.lists.specs.Laws.{All, Pairs, all-map, all-both, all-image, pairs-map}
 use Rattle.limits.specs.Tests.{and-both}
 use Rattle.shares.specs.declared.Costs.{Costs}
+use Rattle.limits.specs.declared.FarmCosts.{FarmCosts}
 use Rattle.shares.specs.Model.{sendEnd, finish}
 use Rattle.shares.specs.Lists.{Positive}
 use Rattle.booking.specs.Best.{freeAt, chosen, units}
@@ -153,7 +154,7 @@ chunks-proper c m n j s f t (i ∷ ks) (a ∷ xs) h k p =
     (record { node = k .0; begins = h; sends = z; ends = omega arith }, chunks-proper c m n j s f (sendEnd c t a) ks xs (omega arith) (k .1) (p .1))
 
 -- The spans of a job are proper.
-pub job-proper : (c : Costs) (n : ℕ) (j : Job) → 1 ≤ c .send → All (λ (k : ℕ). Between 1 k n) (chosen (j .booking)) → Positive (units (j .booking)) → All (Proper n) (spansOf c j)
+pub job-proper : (c : FarmCosts) (n : ℕ) (j : Job) → 1 ≤ c .send → All (λ (k : ℕ). Between 1 k n) (chosen (j .booking)) → Positive (units (j .booking)) → All (Proper n) (spansOf c j)
 job-proper c n j m k p =
     all-image (Proper n) (λ (x : Chunk). record { from = j .booking .start; chunk = x }) (linesOf c j)
     (chunks-proper (ownCosts c j) m n (j .number) (j .show) (j .booking .start) (j .booking .start) (chosen (j .booking)) (units (j .booking)) (omega arith) k p)
@@ -167,7 +168,7 @@ chunks-finish c j s t (i ∷ ks) [] = tt
 chunks-finish c j s t (i ∷ ks) (a ∷ xs) = (omega arith, all-map (λ x h. omega arith) (chunksFrom c j s (sendEnd c t a) ks xs) (chunks-finish c j s (sendEnd c t a) ks xs))
 
 -- No span of a job ends after the job's finish.
-pub job-finish : (c : Costs) (j : Job) → All (λ (x : Span). x .chunk .finish ≤ finishOf c j) (spansOf c j)
+pub job-finish : (c : FarmCosts) (j : Job) → All (λ (x : Span). x .chunk .finish ≤ finishOf c j) (spansOf c j)
 job-finish c j =
     all-image (λ (x : Span). x .chunk .finish ≤ finishOf c j) (λ (x : Chunk). record { from = j .booking .start; chunk = x }) (linesOf c j)
     (chunks-finish (ownCosts c j) (j .number) (j .show) (j .booking .start) (chosen (j .booking)) (units (j .booking)))
@@ -177,10 +178,10 @@ placed-chunks f [] = refl
 placed-chunks f (x ∷ xs) = ap (λ (l : List Chunk). x ∷ l) (placed-chunks f xs)
 
 -- The chunks of a job's spans are its lines.
-pub spans-lines : (c : Costs) (j : Job) → map (λ (x : Span). x .chunk) (spansOf c j) ≡ linesOf c j
+pub spans-lines : (c : FarmCosts) (j : Job) → map (λ (x : Span). x .chunk) (spansOf c j) ≡ linesOf c j
 spans-lines c j = placed-chunks (j .booking .start) (linesOf c j)
 
 -- A chain that begins with a job is a chain of the job's spans, and of the others behind its lines.
-pub chain-job : (b : Busy) (c : Costs) (j : Job) (ys : List Span) → Chain b (spansOf c j ++ ys) ↔ (Chain b (spansOf c j) × Chain (afters b (linesOf c j)) ys)
+pub chain-job : (b : Busy) (c : FarmCosts) (j : Job) (ys : List Span) → Chain b (spansOf c j ++ ys) ↔ (Chain b (spansOf c j) × Chain (afters b (linesOf c j)) ys)
 chain-job b c j ys =
     subst (λ (l : List Chunk). Chain b (spansOf c j ++ ys) ↔ (Chain b (spansOf c j) × Chain (afters b l) ys)) (spans-lines c j) (chain-append b (spansOf c j) ys)

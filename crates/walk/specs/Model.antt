@@ -7,6 +7,7 @@ use mathlib.Core.Bool.{Bool, true, _&&_}
 use lib.Dec.{leb}
 use lib.ListN.{length, getD, set}
 use Rattle.shares.specs.declared.Costs.{Costs}
+use Rattle.limits.specs.declared.FarmCosts.{FarmCosts}
 use Rattle.shares.specs.Model.{sendEnd, chunkFinish, finish}
 use Rattle.keys.specs.declared.Key.{Key}
 use Rattle.keys.specs.Model.{sortKeys}
@@ -35,20 +36,25 @@ noJob = record { number = 0; show = 0; size = 0; compute = 0; deadline = 0; book
 abbrev pub noChunk : Chunk
 noChunk = record { job = 0; show = 0; node = 0; units = 0; start = 0; sent = 0; finish = 0 }
 
--- the farm's costs with another compute cost
-abbrev pub withCompute : Costs → ℕ → Costs
-withCompute c p = record { send = c .send; compute = p; linksetup = c .linksetup; nodesetup = c .nodesetup }
+-- the costs of a job whose units take p ticks to compute, for the share arithmetic: the farm's, and a unit is done when its audio is back, r ticks
+-- after it is computed. A node computes and returns on lines of its own, so r is a part of what follows the send
+abbrev pub costsFor : FarmCosts → ℕ → Costs
+costsFor c p = record { send = c .send; compute = p + c .returning; linksetup = c .linksetup; nodesetup = c .nodesetup }
 
--- a job's own costs: the farm's, with the compute cost that the job keeps from its acceptance on
-abbrev pub ownCosts : Costs → Job → Costs
-ownCosts c j = withCompute c (j .compute)
+-- the costs of a job that the farm's compute cost serves
+abbrev pub defaultCosts : FarmCosts → Costs
+defaultCosts c = costsFor c (c .compute)
+
+-- a job's own costs: those for the compute cost that the job keeps from its acceptance on
+abbrev pub ownCosts : FarmCosts → Job → Costs
+ownCosts c j = costsFor c (j .compute)
 
 -- the chunk of `a` units on node k, for job j of show s, its send beginning at t
 abbrev pub chunkOn : Costs → ℕ → ℕ → ℕ → ℕ → ℕ → Chunk
 chunkOn c j s t k a = record { job = j; show = s; node = k; units = a; start = t; sent = sendEnd c t a; finish = chunkFinish c t a }
 
 -- chunk i of a job, its send beginning at t
-abbrev pub chunkAt : Costs → Job → ℕ → ℕ → Chunk
+abbrev pub chunkAt : FarmCosts → Job → ℕ → ℕ → Chunk
 chunkAt c j i t = chunkOn (ownCosts c j) (j .number) (j .show) t (getD (j .booking .nodes) i 0) (getD (j .booking .shares) i 0)
 
 -- the chunks of shares xs on nodes ks, the first send beginning at t
@@ -59,11 +65,11 @@ chunksFrom c j s t (k ∷ ks) [] = []
 chunksFrom c j s t (k ∷ ks) (a ∷ xs) = chunkOn c j s t k a ∷ chunksFrom c j s (sendEnd c t a) ks xs
 
 -- the lines of a job's booking, in chunk order
-abbrev pub linesOf : Costs → Job → List Chunk
+abbrev pub linesOf : FarmCosts → Job → List Chunk
 linesOf c j = chunksFrom (ownCosts c j) (j .number) (j .show) (j .booking .start) (chosen (j .booking)) (units (j .booking))
 
 -- a job's finish: the latest of its chunks'
-abbrev pub finishOf : Costs → Job → ℕ
+abbrev pub finishOf : FarmCosts → Job → ℕ
 finishOf c j = finish (ownCosts c j) (j .booking .start) (units (j .booking))
 
 -- a chunk with the start of its job, where its node's span begins
@@ -80,11 +86,11 @@ abbrev pub spansFrom : Costs → ℕ → ℕ → ℕ → ℕ → List ℕ → Li
 spansFrom c j s f t ks xs = placed f (chunksFrom c j s t ks xs)
 
 -- the spans of a job's booking
-abbrev pub spansOf : Costs → Job → List Span
+abbrev pub spansOf : FarmCosts → Job → List Span
 spansOf c j = placed (j .booking .start) (linesOf c j)
 
 -- the spans of several jobs
-unfoldable pub spansOfAll : Costs → List Job → List Span
+unfoldable pub spansOfAll : FarmCosts → List Job → List Span
 spansOfAll c [] = []
 spansOfAll c (j ∷ js) = spansOf c j ++ spansOfAll c js
 

@@ -121,10 +121,10 @@ plan-length w b [] = refl
 plan-length w b (j ∷ js) = ap suc (plan-length w (busyAfter w b j) js)
 
 -- Every job of a plan that books all has chunks that can be worked out.
-pub plan-sends : (w : Terms) (b : Busy) (js : List Job) → w .nodes ≤ 64 → length (b .free) ≡ 64 → All (λ (j : Job). j .deadline ≤ greatest) js → BestAll w b js → All (Sends (w .costs)) (plan w b js)
+pub plan-sends : (w : Terms) (b : Busy) (js : List Job) → w .nodes ≤ 64 → w .costs .returning ≤ 10_000 → length (b .free) ≡ 64 → All (λ (j : Job). j .deadline ≤ greatest) js → BestAll w b js → All (Sends (w .costs)) (plan w b js)
 unfolding plan
-plan-sends w b [] n l r a = tt
-plan-sends w b (j ∷ js) n l r a = (
-  best-sends w b j n (omega arith) (r .0) (a .0),
-  plan-sends w (busyAfter w b j) js n (afters-length b (linesOf (w .costs) (step w b j)) ∙ l) (r .1) (a .1),
+plan-sends w b [] n z l r a = tt
+plan-sends w b (j ∷ js) n z l r a = (
+  best-sends w b j n z (omega arith) (r .0) (a .0),
+  plan-sends w (busyAfter w b j) js n z (afters-length b (linesOf (w .costs) (step w b j)) ∙ l) (r .1) (a .1),
 )

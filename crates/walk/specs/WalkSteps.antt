@@ -21,12 +21,13 @@ use Rattle.walk.specs.declared.Job.{Job}
 use Rattle.walk.specs.declared.Terms.{Terms}
 use Rattle.walk.specs.declared.Busy.{Busy}
 use Rattle.walk.specs.declared.Plan.{Plan}
-use Rattle.walk.specs.Model.{greatest, noJob, byDeadline, requestOf, step, busyAfter, plan, booksAll}
+use Rattle.walk.specs.Model.{greatest, noJob, defaultCosts, byDeadline, requestOf, step, busyAfter, plan, booksAll}
 use Rattle.walk.specs.Chunks.{Sends}
 
--- what a walk starts from: costs and nodes for which the shares answer, free times in the time range, and jobs of at least one unit with a deadline in it
+-- what a walk starts from: costs and nodes for which the shares answer, a way back within its limit, free times in the time range, and jobs of at least one unit with a deadline in it
 pub record Ready (w : Terms) (b : Busy) (js : List Job) : Type 0 where
-  pub answered : answers (w .costs) (w .nodes) ≡ true
+  pub answered : answers (defaultCosts (w .costs)) (w .nodes) ≡ true
+  pub returning : w .costs .returning ≤ 10_000
   pub free : All (λ (t : ℕ). t ≤ greatest) (take (w .nodes) (b .free))
   pub jobs : All (λ (j : Job). (1 ≤ j .size) × (j .deadline ≤ greatest)) js
 
@@ -38,17 +39,17 @@ pub record Walked (w : Terms) (b : Busy) (jobs : List Job) (n : ℕ) (job : Job)
   pub place : r .ok ≡ true → (r .place ≤ n) × (getD (r .jobs) (r .place) noJob .number ≡ job .number)
 
 -- A job that is booked has the best of all choices behind those before it.
-pub step-best : (w : Terms) (b : Busy) (j : Job) → answers (w .costs) (w .nodes) ≡ true → w .nodes ≤ length (b .free) → 1 ≤ j .size
+pub step-best : (w : Terms) (b : Busy) (j : Job) → answers (defaultCosts (w .costs)) (w .nodes) ≡ true → w .nodes ≤ length (b .free) → 1 ≤ j .size
     → (step w b j .booking .count ≡ 0 → ⊥) → Best (requestOf w b j) (b .free) (step w b j .booking)
 unfolding bookingOf
 step-best w b j e h z n =
     ⊎-elim (λ x. absurd (n (ap (λ (y : Booking). y .count) (x .0)))) (λ x. x) (book-is (requestOf w b j) (b .free) e h z)
 
 -- Its chunks can be worked out.
-pub best-sends : (w : Terms) (b : Busy) (j : Job) → w .nodes ≤ 64 → w .nodes ≤ length (b .free) → j .deadline ≤ greatest → Best (requestOf w b j) (b .free) (step w b j .booking)
+pub best-sends : (w : Terms) (b : Busy) (j : Job) → w .nodes ≤ 64 → w .costs .returning ≤ 10_000 → w .nodes ≤ length (b .free) → j .deadline ≤ greatest → Best (requestOf w b j) (b .free) (step w b j .booking)
     → Sends (w .costs) (step w b j)
 unfolding bookingOf
-best-sends w b j f h d x =
+best-sends w b j f r h d x =
     let q : Booking = step w b j .booking in
     let k : q .count ≡ length (chosen q) = ap (λ (y : Booking). y .count) (x .blank) in
     let m : length (chosen q) ≤ w .nodes = no-more (w .nodes) (b .free) (ranked (w .nodes) (b .free)) (ranked-is (w .nodes) (b .free) h) (chosen q) (x .best .choice .known) (x .best .choice .differ) in
@@ -58,6 +59,7 @@ best-sends w b j f h d x =
       shares = sym (k ∙ x .best .choice .paired);
       known = all-map (λ y a. (a .0, omega (arith, a .1))) (chosen q) (x .best .choice .known);
       ends = omega (arith, x .best .choice .ends);
+      returning = r;
     }
 
 -- Jobs in a row, of which the one at place i comes next.

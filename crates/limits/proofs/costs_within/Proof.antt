@@ -25,6 +25,12 @@ at-most-requires-2 c κs = search needs
 and-requires-3 : tie.Need-and-requires-3
 and-requires-3 c κs = search needs
 
+at-most-requires-3 : tie.Need-at-most-requires-3
+at-most-requires-3 c κs = search needs
+
+and-requires-4 : tie.Need-and-requires-4
+and-requires-4 c κs = search needs
+
 returns : tie.Need-returns
 unfolding costsWithin
 returns c = cc
@@ -40,4 +46,6 @@ costs-within-spec =
     and-requires-2
     at-most-requires-2
     and-requires-3
+    at-most-requires-3
+    and-requires-4
     returns)

@@ -13,7 +13,7 @@ use borrow.Struct.Reads.{reads-field}
 use borrow.Fn.World.{World}
 use borrow.Kind.Num.{vAt}
 use borrow.Kind.Unit.{rUnit}
-use Rattle.shares.specs.declared.Costs.{Costs}
+use Rattle.limits.specs.declared.FarmCosts.{FarmCosts}
 use Rattle.walk.specs.declared.Job.{Job}
 use Rattle.walk.specs.declared.Chunk.{Chunk}
 use Rattle.walk.specs.Model.{greatest}
@@ -89,7 +89,7 @@ asked : (w : World) → Asked w c Pre Post (derived w)
 asked w κs qs a good within bs =
     let out = a .0 in
     let at : ℕ = a .1 .0 in
-    let costs : Costs = a .1 .1 .0 in
+    let costs : FarmCosts = a .1 .1 .0 in
     let job : Job = a .1 .1 .1 .0 in
     let count : ℕ = job .booking .count in
     let sends : Sends costs job = within .0 in

@@ -25,7 +25,7 @@ use borrow.Fn.World.{World}
 use borrow.Kind.Num.{vAt}
 use borrow.Kind.Unit.{rUnit}
 use Rattle.lists.specs.Laws.{all-front}
-use Rattle.shares.specs.declared.Costs.{Costs}
+use Rattle.limits.specs.declared.FarmCosts.{FarmCosts}
 use Rattle.walk.specs.declared.Job.{Job}
 use Rattle.walk.specs.declared.Chunk.{Chunk}
 use Rattle.walk.specs.Model.{noJob, linesOf}
@@ -116,7 +116,7 @@ derived w κs qs bs =
 asked : (w : World) → Asked w c Pre Post (derived w)
 asked w κs qs a good within bs =
     let out = a .0 in
-    let costs : Costs = a .1 .0 in
+    let costs : FarmCosts = a .1 .0 in
     let jobs : List Job = a .1 .1 .0 in
     let count : ℕ = a .1 .1 .1 .0 in
     let bytes : length (now out) * 56 < 2 ^ 63 = good .0 .1 in
