@@ -660,7 +660,9 @@ impl Day {
             costs = self.with_a_wrong_cost(costs);
         }
         if wrong_shows {
-            shows = self.random.pick(&[0, 0, MOST_SHOWS + 1, MOST_SHOWS + 2, 400]);
+            shows = self
+                .random
+                .pick(&[0, 0, MOST_SHOWS + 1, MOST_SHOWS + 2, 400]);
         }
         let mut numbers = farm_numbers(nodes, costs, &vec![7; shows]);
         if self.random.once_in(5) {
@@ -1001,8 +1003,21 @@ impl Day {
     /// Whatever may stand in the place of r; some of it can be read.
     fn odd_return(&mut self) {
         let odd = self.random.pick(&[
-            "", "\t", " ", "7 ", " 7", "7\r", "+7", "-0", "7.0", "r", "007", "0000000010000",
-            "0000000010001", "00000000000007", "10000000000000",
+            "",
+            "\t",
+            " ",
+            "7 ",
+            " 7",
+            "7\r",
+            "+7",
+            "-0",
+            "7.0",
+            "r",
+            "007",
+            "0000000010000",
+            "0000000010001",
+            "00000000000007",
+            "10000000000000",
         ]);
         self.raw(format!("farm\t2\t3\t40\t5\t60\t{odd}\t800\t900").as_bytes());
     }
@@ -1136,7 +1151,8 @@ fn farm_line(nodes: u64, costs: Costs, allowances: &[u64]) -> Vec<u8> {
     line(b"farm", &farm_numbers(nodes, costs, allowances))
 }
 
-fn farm_numbers(nodes: u64, costs: Costs, allowances: &[u64]) -> Vec<u64> {
+/// The numbers of a `farm` line.
+pub fn farm_numbers(nodes: u64, costs: Costs, allowances: &[u64]) -> Vec<u64> {
     let costs = [
         costs.send,
         costs.compute,

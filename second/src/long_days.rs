@@ -1,5 +1,6 @@
 //! Long days, to measure programs on.
 
+use crate::days::farm_numbers;
 use crate::farm::Farm;
 use crate::limits::{LAST_TICK, MOST_UNITS};
 use crate::program::Session;
@@ -8,14 +9,18 @@ use crate::random::Random;
 use crate::share::{Costs, Windows};
 use crate::text;
 
-/// Jobs that wait in a long day once it is under way.
+/// Jobs that wait in a day with a full queue once it is under way.
 const WAITING: usize = 120;
+
+/// Lines of such a day.
+const QUEUE_LINES: usize = 6_000;
 
 const COSTS: Costs = Costs {
     send: 3,
     compute: 200,
     link_setup: 5,
     node_setup: 40,
+    return_cost: 0,
 };
 
 const NODES: u64 = 64;
@@ -29,36 +34,41 @@ pub struct LongDay {
 
 /// All long days; each has the same bytes every time.
 pub fn long_days() -> Vec<LongDay> {
+    let loose = Queue {
+        name: "loose deadlines, full queue",
+        return_cost: 0,
+        make_room: begin_a_few,
+        compute: no_compute,
+        deadline: loose_deadline,
+    };
+    let tight = Queue {
+        name: "tight deadlines, full queue",
+        deadline: tight_deadline,
+        ..loose
+    };
+    let mixed = Queue {
+        name: "mixed compute costs, full queue",
+        compute: speech_or_music,
+        ..tight
+    };
+    let withdrawals = Queue {
+        name: "withdrawals, full queue",
+        make_room: withdraw_mostly,
+        ..loose
+    };
+    let returns = Queue {
+        name: "audio comes back, mixed compute costs, withdrawals, full queue",
+        return_cost: 70,
+        compute: speech_or_music,
+        ..withdrawals
+    };
     vec![
-        queue_day(
-            "loose deadlines, full queue",
-            6_000,
-            begin_a_few,
-            no_compute,
-            loose_deadline,
-        ),
-        queue_day(
-            "tight deadlines, full queue",
-            6_000,
-            begin_a_few,
-            no_compute,
-            tight_deadline,
-        ),
+        loose.day(),
+        tight.day(),
         short_lines(100_000),
-        queue_day(
-            "mixed compute costs, full queue",
-            6_000,
-            begin_a_few,
-            speech_or_music,
-            tight_deadline,
-        ),
-        queue_day(
-            "withdrawals, full queue",
-            6_000,
-            withdraw_mostly,
-            no_compute,
-            loose_deadline,
-        ),
+        mixed.day(),
+        withdrawals.day(),
+        returns.day(),
     ]
 }
 
@@ -69,7 +79,7 @@ struct Writer {
 }
 
 impl Writer {
-    fn new(name: &'static str) -> Self {
+    fn new(name: &'static str, costs: Costs) -> Self {
         let mut writer = Writer {
             random: Random::new(1),
             session: Session::default(),
@@ -79,13 +89,7 @@ impl Writer {
                 bytes: Vec::new(),
             },
         };
-        let costs = [
-            COSTS.send,
-            COSTS.compute,
-            COSTS.link_setup,
-            COSTS.node_setup,
-        ];
-        writer.line(b"farm", &[&[NODES], &costs[..], &[1_000_000; 8]].concat());
+        writer.line(b"farm", &farm_numbers(NODES, costs, &[1_000_000; 8]));
         writer
     }
 
@@ -122,27 +126,40 @@ impl Writer {
     }
 }
 
-/// Offers with about 120 jobs waiting; whenever more wait, room is made.
-fn queue_day(
+/// A day of offers with about 120 jobs waiting.
+#[derive(Clone, Copy)]
+struct Queue {
     name: &'static str,
-    lines: usize,
+    return_cost: u64,
+    /// What happens whenever more wait.
     make_room: fn(&mut Writer),
     compute: fn(&mut Random) -> Option<u64>,
     deadline: fn(&mut Writer, Costs, size: u64) -> u64,
-) -> LongDay {
-    let mut writer = Writer::new(name);
-    while writer.day.lines < lines {
-        if writer.waiting() > WAITING {
-            make_room(&mut writer);
+}
+
+impl Queue {
+    fn day(self) -> LongDay {
+        let farm_costs = Costs {
+            return_cost: self.return_cost,
+            ..COSTS
+        };
+        let mut writer = Writer::new(self.name, farm_costs);
+        while writer.day.lines < QUEUE_LINES {
+            if writer.waiting() > WAITING {
+                (self.make_room)(&mut writer);
+            }
+            let show = writer.random.between(1, 8);
+            let size = writer.random.between(20, 400);
+            let own = (self.compute)(&mut writer.random);
+            let costs = Costs {
+                compute: own.unwrap_or(farm_costs.compute),
+                ..farm_costs
+            };
+            let deadline = (self.deadline)(&mut writer, costs, size);
+            writer.job(show, size, deadline, own);
         }
-        let show = writer.random.between(1, 8);
-        let size = writer.random.between(20, 400);
-        let own = compute(&mut writer.random);
-        let compute = own.unwrap_or(COSTS.compute);
-        let deadline = deadline(&mut writer, Costs { compute, ..COSTS }, size);
-        writer.job(show, size, deadline, own);
+        writer.day
     }
-    writer.day
 }
 
 /// A clock move lets a few begin.
@@ -200,7 +217,7 @@ fn tight_deadline(writer: &mut Writer, costs: Costs, size: u64) -> u64 {
 
 /// Short lines with few jobs waiting: accounts, clock moves, refusals.
 fn short_lines(lines: usize) -> LongDay {
-    let mut writer = Writer::new("short lines, few jobs waiting");
+    let mut writer = Writer::new("short lines, few jobs waiting", COSTS);
     while writer.day.lines < lines {
         let (show, clock) = (writer.random.between(1, 8), writer.clock());
         match writer.random.between(0, 9) {

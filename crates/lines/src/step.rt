@@ -7,13 +7,13 @@ ghost use lib.ListN.{getD};
 ghost use Rattle.planner.specs.Calls.{Replies, openSaid, openFarm};
 ghost use Rattle.lines.specs.Model.{costsIn, offerIn, inTurn};
 ghost use Rattle.lines.specs.Rows.{allowancesIn};
+use limits::FarmCosts;
 use planner::ComputeCost;
 use planner::Farm;
 use planner::Offer;
 use planner::Reply;
 use reading::Kind;
 use reading::Row;
-use limits::FarmCosts;
 
 // An opening: nodes, the costs m p ST SC, then one allowance a show.
 pub fn opening(row: Row) -> Reply

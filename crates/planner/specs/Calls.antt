@@ -82,7 +82,7 @@ abbrev pub unopened : Farm
 unopened = record {
   opened = false;
   nodes = 0;
-  costs = record { send = 0; compute = 0; linksetup = 0; nodesetup = 0 };
+  costs = record { send = 0; compute = 0; linksetup = 0; nodesetup = 0; returning = 0 };
   shows = 0;
   allowances = replicate 32 0;
   held = replicate 32 0;

@@ -22,7 +22,7 @@ use Rattle.planner.specs.declared.Reply.{Reply}
 use Rattle.planner.specs.declared.Question.{Question}
 use Rattle.planner.specs.declared.Question.the-variants as question
 use Rattle.planner.specs.declared.Answer.the-variants as answer
-use Rattle.planner.specs.Model.{greatest, between, costsWithin, waitingOf, termsOf, busyOf, byDeadline}
+use Rattle.planner.specs.Model.{greatest, between, costsWithin, defaultCosts, waitingOf, termsOf, busyOf, byDeadline}
 use Rattle.planner.specs.Passes.{passesOf}
 use Rattle.planner.specs.PassesSteps.{passes-within, passes-jobs}
 use Rattle.planner.specs.Calls.{Account, said, granted, refused, numberOf, Replies, unopened, openedWith, showsWithin, openSaid, openFarm, heldBy, allowanceOf, accountSaid, computeOf, offerAsked, offerSaid, offerFarm}
@@ -167,7 +167,8 @@ pub offer-ready : (f : Farm) (j : Job) → Offered f j → Ready (termsOf f) (bu
 offer-ready f j o =
     let g = passes-within f (o .passes) in
     record {
-      answered = answered (f .costs) (f .nodes) (g .costs .send .0) (g .nodes .1);
+      answered = answered (defaultCosts (f .costs)) (f .nodes) (g .costs .send .0) (g .nodes .1);
+      returning = g .costs .returning;
       free = g .free;
       jobs = all-join (λ (x : Job). (1 ≤ x .size) × (x .deadline ≤ greatest)) (waitingOf f) (j ∷ [])
           (all-map (λ x a. (a .0 .size .0, a .0 .deadline)) (waitingOf f) (passes-jobs f (o .passes))) ((o .size, o .deadline), tt);
@@ -178,6 +179,7 @@ walk-ready f j o =
     let r = offer-ready f j o in
     record {
       answered = r .answered;
+      returning = r .returning;
       free = r .free;
       jobs = perm-all (λ (x : Job). (1 ≤ x .size) × (x .deadline ≤ greatest)) (by-deadline-perm (waitingOf f ++ j ∷ [])) (r .jobs);
     }

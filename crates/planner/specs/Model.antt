@@ -2,7 +2,7 @@
 -- Jobs, chunks, spans and the deadline walk are those of the crate walk, and the limits those of the crate limits.
 pub use Rattle.limits.specs.Model.{between, Between}
 unfoldable pub use Rattle.limits.specs.Model.{allAtMost, allAtLeast, costsWithin}
-pub use Rattle.walk.specs.Model.{greatest, emptyJob, noJob, withCompute, ownCosts, linesOf, finishOf, Span, spansOf, JobSized, Includes, Apart, after, inOrder, byTime, deadlineOf, startOf, byDeadline, byStart, requestOf, booked, step, busyAfter}
+pub use Rattle.walk.specs.Model.{greatest, emptyJob, noJob, costsFor, defaultCosts, ownCosts, linesOf, finishOf, Span, spansOf, JobSized, Includes, Apart, after, inOrder, byTime, deadlineOf, startOf, byDeadline, byStart, requestOf, booked, step, busyAfter}
 unfoldable pub use Rattle.walk.specs.Model.{chunksFrom, spansOfAll, afters, fitAll, keysBy, plan, booksAll}
 use mathlib.Core.Path.{_≡_}
 use mathlib.Core.List.{List}

@@ -11,12 +11,12 @@ use crate::Farm;
 use crate::Question;
 use crate::Reply;
 use crate::passing::passes;
+use limits::FarmCosts;
 use limits::all_at_most;
 use limits::between;
 use limits::costs_within;
 use numbers::less;
 use queue::empty_job;
-use limits::FarmCosts;
 
 // The unopened farm, the same one each time.
 fn unopened_farm() -> Farm
@@ -31,6 +31,7 @@ fn unopened_farm() -> Farm
             compute: 0,
             linksetup: 0,
             nodesetup: 0,
+            returning: 0,
         },
         shows: 0,
         allowances: [0; 32],

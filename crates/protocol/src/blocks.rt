@@ -10,6 +10,7 @@ ghost use Rattle.protocol.specs.Promises.{Took, endText};
 ghost use Rattle.protocol.specs.Reachable.{Reachable};
 use crate::Progress;
 use crate::Session;
+use limits::FarmCosts;
 use lines::Rest;
 use lines::answer::put_answer;
 use lines::answer::put_move;
@@ -22,7 +23,6 @@ use lines::step::opening;
 use planner::Farm;
 use reading::Kind;
 use reading::find;
-use limits::FarmCosts;
 use timetable::lines::write_rows;
 
 // The start of a day: an unopened farm, and nothing of a line. The farm is the one that a refused opening hands back.

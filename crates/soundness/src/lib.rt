@@ -11,6 +11,7 @@ ghost use Rattle.soundness.specs.Model.{noneOf, allDiffer, nodesKnown, s
 ghost use Rattle.soundness.specs.Sound.{Usable};
 ghost use Rattle.soundness.specs.Steps.{NoOverflow, Bounded, Inside, Surveys, FitResult};
 use keys::Key;
+use limits::FarmCosts;
 use limits::and;
 use limits::at_most;
 use limits::between;
@@ -18,7 +19,6 @@ use numbers::least;
 use numbers::wide;
 use numbers::wide8;
 use numbers::wide32;
-use limits::FarmCosts;
 use walk::Busy;
 use walk::Job;
 use walk::Time;
