@@ -611,10 +611,10 @@ impl Day {
         self.job_at(show, size, deadline, compute);
     }
 
-    /// Of so many figures at least one.
-    fn which_wrong<const FIGURES: usize>(&mut self) -> [bool; FIGURES] {
-        let wrong = self.random.between(1, (1 << FIGURES) - 1);
-        std::array::from_fn(|figure| wrong >> figure & 1 == 1)
+    /// Of four figures one, two, three or all.
+    fn which_wrong(&mut self) -> [bool; 4] {
+        let wrong = self.random.between(1, 15);
+        [1, 2, 4, 8].map(|figure| wrong & figure != 0)
     }
 
     fn wrong_show(&mut self) -> u64 {
@@ -649,7 +649,9 @@ impl Day {
     /// One figure wrong or several, so that the order of the questions shows; at
     /// times five numbers are all there is, which is another shape.
     fn wrong_opening(&mut self) {
-        let [wrong_nodes, wrong_cost, wrong_shows] = self.which_wrong();
+        let first_no = self.random.between(1, 3);
+        let [wrong_nodes, wrong_cost, wrong_shows] =
+            [1, 2, 3].map(|no| no == first_no || no > first_no && self.random.once_in(2));
         let mut nodes = self.random.between(1, MOST_NODES as u64);
         let mut costs = Costs::new(1, 1, 0, 0, MOST_RETURN_COST);
         let mut shows = self.random.pick(&[1, MOST_SHOWS]);
@@ -660,9 +662,8 @@ impl Day {
             costs = self.with_a_wrong_cost(costs);
         }
         if wrong_shows {
-            shows = self
-                .random
-                .pick(&[0, 0, MOST_SHOWS + 1, MOST_SHOWS + 2, 400]);
+            let beyond = MOST_SHOWS + 1;
+            shows = self.random.pick(&[0, 0, beyond, beyond + 1, 400]);
         }
         let mut numbers = farm_numbers(nodes, costs, &vec![7; shows]);
         if self.random.once_in(5) {

@@ -7,13 +7,14 @@ use mathlib.Core.Bool.{Bool, true, cond}
 use lib.Dec.{eqb}
 use lib.ListN.{length, getD, take}
 use Rattle.lists.specs.Laws.{All}
+use Rattle.shares.specs.declared.Costs.{Costs}
 use Rattle.limits.specs.declared.FarmCosts.{FarmCosts}
 use Rattle.shares.specs.Model.{sendEnd, chunkFinish}
 use Rattle.walk.specs.declared.Job.{Job}
 use Rattle.walk.specs.declared.Chunk.{Chunk}
 use Rattle.planner.specs.declared.Farm.{Farm}
 use Rattle.planner.specs.declared.Offer.{Offer}
-use Rattle.planner.specs.Model.{withCompute, Span, linesOf, spansOf, waitingOf}
+use Rattle.planner.specs.Model.{costsFor, Span, linesOf, spansOf, waitingOf}
 use Rattle.planner.specs.Calls.{Said, ofNumber, computeOf, planned, offerSaid, offerFarm, withdrawSaid, withdrawFarm}
 use Rattle.planner.specs.Clock.{holds, moveSaid, moveFarm, moveMemory}
 
@@ -151,9 +152,9 @@ unitsIn (x ∷ xs) = x .units + unitsIn xs
 abbrev pub acceptedOf : Job → Accepted
 acceptedOf j = record { number = j .number; show = j .show; size = j .size; compute = j .compute; deadline = j .deadline }
 
--- the costs that it was accepted with: the farm's, with its compute cost
-abbrev pub acceptedCosts : FarmCosts → Accepted → FarmCosts
-acceptedCosts c x = withCompute c (x .compute)
+-- the costs that it was accepted with: the farm's, for its compute cost
+abbrev pub acceptedCosts : FarmCosts → Accepted → Costs
+acceptedCosts c x = costsFor c (x .compute)
 
 -- chunks that do what was accepted: of its number and show, some units each, adding up to its size, sent and finished as its costs make it, ending by
 -- its deadline

@@ -1,4 +1,5 @@
--- Cases A to M of document 01, "Windows to try", cases of a job's own compute cost, and cases of a withdrawal, each a table and a theorem about the model.
+-- Cases A to M of document 01, "Windows to try", cases of a job's own compute cost, of a withdrawal and of the way back, each a table and a theorem about
+-- the model.
 -- The checker works each row out.
 use Prim.Native.Nat.{ℕ, _+_}
 use mathlib.Core.Path.{_≡_, refl}
@@ -71,9 +72,9 @@ Right r = run r ≡ r .expected
 
 -- ---- The table
 
--- m, p, ST, SC
-abbrev pub costsOf : ℕ → ℕ → ℕ → ℕ → FarmCosts
-costsOf m p st sc = record { send = m; compute = p; linksetup = st; nodesetup = sc }
+-- m, p, ST, SC, r
+abbrev pub costsOf : ℕ → ℕ → ℕ → ℕ → ℕ → FarmCosts
+costsOf m p st sc r = record { send = m; compute = p; linksetup = st; nodesetup = sc; returning = r }
 
 -- one offer to a new farm of one show: all nodes and the link free, start 0, so that the window is the deadline
 abbrev pub alone : ℕ → FarmCosts → ℕ → ℕ → Outcome → Row
@@ -94,7 +95,7 @@ listed = call.offer (offerOf 1 10 18) ∷ call.offer (offerOf 2 3 20) ∷ []
 abbrev pub afterListing : ℕ → Outcome → Row
 afterListing d e = record {
   nodes = 3;
-  costs = costsOf 1 2 0 0;
+  costs = costsOf 1 2 0 0 0;
   allowances = 30 ∷ 0 ∷ [];
   before = listed;
   offer = offerOf 2 2 d;
@@ -104,25 +105,25 @@ afterListing d e = record {
 abbrev pub cases : List Row
 cases =
     -- A
-    alone 64 (costsOf 1 2 0 0) 10 30 (yes 1 0 30 1 (10 ∷ []))
+    alone 64 (costsOf 1 2 0 0 0) 10 30 (yes 1 0 30 1 (10 ∷ []))
     -- B
-    ∷ alone 64 (costsOf 1 2 0 0) 10 29 (yes 1 0 18 2 (6 ∷ 4 ∷ []))
+    ∷ alone 64 (costsOf 1 2 0 0 0) 10 29 (yes 1 0 18 2 (6 ∷ 4 ∷ []))
     -- C
-    ∷ alone 64 (costsOf 1 2 0 0) 10 18 (yes 1 0 18 2 (6 ∷ 4 ∷ []))
+    ∷ alone 64 (costsOf 1 2 0 0 0) 10 18 (yes 1 0 18 2 (6 ∷ 4 ∷ []))
     -- D
-    ∷ alone 64 (costsOf 1 2 0 0) 10 17 (yes 1 0 15 3 (5 ∷ 3 ∷ 2 ∷ []))
+    ∷ alone 64 (costsOf 1 2 0 0 0) 10 17 (yes 1 0 15 3 (5 ∷ 3 ∷ 2 ∷ []))
     -- E: not on three nodes
-    ∷ alone 3 (costsOf 1 2 0 0) 10 14 (no 8)
+    ∷ alone 3 (costsOf 1 2 0 0 0) 10 14 (no 8)
     -- F
-    ∷ alone 64 (costsOf 10 20 0 0) 4 80 (yes 1 0 80 2 (2 ∷ 2 ∷ []))
+    ∷ alone 64 (costsOf 10 20 0 0 0) 4 80 (yes 1 0 80 2 (2 ∷ 2 ∷ []))
     -- G
-    ∷ alone 64 (costsOf 10 20 0 0) 4 75 (yes 1 0 60 3 (2 ∷ 1 ∷ 1 ∷ []))
+    ∷ alone 64 (costsOf 10 20 0 0 0) 4 75 (yes 1 0 60 3 (2 ∷ 1 ∷ 1 ∷ []))
     -- H
-    ∷ alone 64 (costsOf 1 2 2 1) 3 12 (yes 1 0 12 1 (3 ∷ []))
+    ∷ alone 64 (costsOf 1 2 2 1 0) 3 12 (yes 1 0 12 1 (3 ∷ []))
     -- I
-    ∷ alone 64 (costsOf 1 2 2 1) 3 10 (yes 1 0 10 2 (2 ∷ 1 ∷ []))
+    ∷ alone 64 (costsOf 1 2 2 1 0) 3 10 (yes 1 0 10 2 (2 ∷ 1 ∷ []))
     -- J: on no count of nodes
-    ∷ alone 64 (costsOf 1 2 2 1) 3 9 (no 8)
+    ∷ alone 64 (costsOf 1 2 2 1 0) 3 9 (no 8)
     -- K
     ∷ afterListing 24 (yes 3 18 24 1 (2 ∷ []))
     -- L
@@ -135,7 +136,7 @@ cases =
 abbrev pub aloneAt : ℕ → ℕ → ℕ → Outcome → Row
 aloneAt p z w e = record {
   nodes = 64;
-  costs = costsOf 1 2 0 0;
+  costs = costsOf 1 2 0 0 0;
   allowances = 0 ∷ [];
   before = [];
   offer = offerWith 1 z w p;
@@ -146,7 +147,7 @@ aloneAt p z w e = record {
 abbrev pub beforeAnother : ℕ → Outcome → Row
 beforeAnother p e = record {
   nodes = 2;
-  costs = costsOf 1 4 0 0;
+  costs = costsOf 1 4 0 0 0;
   allowances = 0 ∷ [];
   before = call.offer (offerOf 1 2 11) ∷ [];
   offer = offerWith 1 2 6 p;
@@ -172,7 +173,7 @@ ownCases =
 abbrev pub listedWithout : ℕ → ℕ → Outcome → Row
 listedWithout n d e = record {
   nodes = 3;
-  costs = costsOf 1 2 0 0;
+  costs = costsOf 1 2 0 0 0;
   allowances = 30 ∷ 0 ∷ [];
   before = listed ++ call.withdraw n ∷ [];
   offer = offerOf 2 2 d;
@@ -183,7 +184,7 @@ listedWithout n d e = record {
 abbrev pub lateUnit : List Call → Outcome → Row
 lateUnit cs e = record {
   nodes = 2;
-  costs = costsOf 1 1 0 0;
+  costs = costsOf 1 1 0 0 0;
   allowances = 0 ∷ [];
   before = call.offer (offerOf 1 1 2) ∷ call.offer (offerOf 1 5 10) ∷ call.offer (offerOf 1 8 20) ∷ cs;
   offer = offerOf 1 1 40;
@@ -210,6 +211,48 @@ withdrawCases =
     ∷ lateUnit (call.withdraw 1 ∷ call.withdraw 3 ∷ []) (yes 4 5 7 1 (1 ∷ []))
     ∷ []
 
+-- The way back, document 02 (iii): the farm of case A where a unit takes r ticks to come back, ..
+abbrev pub aloneBack : ℕ → ℕ → Offer → Outcome → Row
+aloneBack n r o e = record {
+  nodes = n;
+  costs = costsOf 1 2 0 0 r;
+  allowances = 0 ∷ [];
+  before = [];
+  offer = o;
+  expected = e;
+}
+
+-- .. and an offer of show 2 where a job of 10 units by 24 waits, or these calls were made after it, r being 1
+abbrev pub behindBack : ℕ → List Call → Offer → Outcome → Row
+behindBack n cs o e = record {
+  nodes = n;
+  costs = costsOf 1 2 0 0 1;
+  allowances = 30 ∷ 0 ∷ [];
+  before = call.offer (offerOf 1 10 24) ∷ cs;
+  offer = o;
+  expected = e;
+}
+
+abbrev pub returnCases : List Row
+returnCases =
+    -- one node in 40 ticks where case A takes 30, and two in 24 where case C takes 18: a unit takes 1 tick to send, 2 to compute and 1 to come back
+    aloneBack 64 1 (offerOf 1 10 40) (yes 1 0 40 1 (10 ∷ []))
+    ∷ aloneBack 64 1 (offerOf 1 10 39) (yes 1 0 24 2 (6 ∷ 4 ∷ []))
+    -- in case C's 18 ticks it takes four nodes, and is refused on three
+    ∷ aloneBack 64 1 (offerOf 1 10 18) (yes 1 0 16 4 (4 ∷ 3 ∷ 2 ∷ 1 ∷ []))
+    ∷ aloneBack 3 1 (offerOf 1 10 18) (no 8)
+    -- a cost of the job's own does not take the way back's place: at 1, case C
+    ∷ aloneBack 64 1 (offerWith 1 10 18 1) (yes 1 0 18 2 (6 ∷ 4 ∷ []))
+    -- its limits are those of p alone
+    ∷ aloneBack 64 10_000 (offerWith 1 10 18 1_000_001) (no 2)
+    -- nothing comes back on the link: a job behind the first is sent from 10, when the sends of the 10 units have ended
+    ∷ behindBack 3 [] (offerOf 2 3 25) (yes 2 10 22 1 (3 ∷ []))
+    -- a node is free once its audio is back: node 2 has its 4 units back at 22, node 1 its 6 at 24
+    ∷ behindBack 2 [] (offerOf 2 1 27) (yes 2 22 26 1 (1 ∷ []))
+    ∷ behindBack 2 [] (offerOf 2 1 25) (no 8)
+    ∷ behindBack 2 (call.move 0 (replicate 2 noChunk) ∷ []) (offerOf 2 1 27) (yes 2 22 26 1 (1 ∷ []))
+    ∷ []
+
 -- every row comes out as expected
 pub cases-right : All Right cases
 unfolding run made outcome openFarm offerAsked offerSaid offerFarm ofNumber passesOf countsWithin timesWithin waitingPass costsWithin allAtMost allAtLeast jobsPass jobPasses jobWithin jobKept sharesKept noneOf allDiffer fitAll spansOfAll chunksFrom afters keysBy plan booksAll noLater insertKey sortOnto nodeKeys ranked search bookingOf bookedAt bookOf finish sum first left capacity cut greedy earliest
@@ -224,6 +267,11 @@ own-cases-right = (refl, (refl, (refl, (refl, (refl, (refl, (refl, tt)))))))
 pub withdraw-cases-right : All Right withdrawCases
 unfolding run made outcome openFarm offerAsked offerSaid offerFarm hasNumber ofNumber without withdrawSaid withdrawFarm keep raised linesOfAll moveAsked moveFarm passesOf countsWithin timesWithin waitingPass costsWithin allAtMost allAtLeast jobsPass jobPasses jobWithin jobKept sharesKept noneOf allDiffer fitAll spansOfAll chunksFrom afters keysBy plan booksAll noLater insertKey sortOnto nodeKeys ranked search bookingOf bookedAt bookOf finish sum first left capacity cut greedy earliest
 withdraw-cases-right = (refl, (refl, (refl, (refl, (refl, (refl, (refl, tt)))))))
+
+-- so does every row of the way back
+pub return-cases-right : All Right returnCases
+unfolding run made outcome openFarm offerAsked offerSaid offerFarm hasNumber ofNumber without withdrawSaid withdrawFarm keep raised linesOfAll moveAsked moveFarm passesOf countsWithin timesWithin waitingPass costsWithin allAtMost allAtLeast jobsPass jobPasses jobWithin jobKept sharesKept noneOf allDiffer fitAll spansOfAll chunksFrom afters keysBy plan booksAll noLater insertKey sortOnto nodeKeys ranked search bookingOf bookedAt bookOf finish sum first left capacity cut greedy earliest
+return-cases-right = (refl, (refl, (refl, (refl, (refl, (refl, (refl, (refl, (refl, (refl, tt))))))))))
 
 -- After that withdrawal a walk of the waiting jobs alone does not book them all, so that an offer walked behind them is refused with 8 however small it is.
 pub old-job-fails : booksAll (termsOf (farmOf oldJobFails)) (busyOf (farmOf oldJobFails)) (byDeadline (waitingOf (farmOf oldJobFails))) ≡ false

@@ -8,7 +8,7 @@ use Rattle.lists.specs.Laws.{All, all-join}
 use Rattle.limits.specs.declared.FarmCosts.{FarmCosts}
 use Rattle.planner.specs.declared.Farm.{Farm}
 use Rattle.planner.specs.declared.ComputeCost.the-variants.{Absent}
-use Rattle.planner.specs.Model.{withCompute, waitingOf}
+use Rattle.planner.specs.Model.{costsFor, defaultCosts, waitingOf}
 use Rattle.planner.specs.Passes.{passesOf}
 use Rattle.planner.specs.Calls.{hasNumber, computeOr, computeOf, planned, accepts, withPlan, offerAsked, offerSaid, offerFarm, withdrawnFarm, withdrawFarm}
 use Rattle.planner.specs.Clock.{movedFarm, moveAsked, moveFarm}
@@ -58,15 +58,15 @@ GivesNone (offer o) = o .compute ≡ Absent
 GivesNone (withdraw n) = Unit
 GivesNone (move t m) = Unit
 
--- the costs that a job was accepted with are these
+-- the costs that a job was accepted with are those that the farm's compute cost gives
 abbrev At : FarmCosts → Accepted → Type 0
-At c x = acceptedCosts c x ≡ c
+At c x = acceptedCosts c x ≡ defaultCosts c
 
 call-at : (f : Farm) (c : Call) → GivesNone c → All (At (f .costs)) (jobsBy f c)
 call-at f (offer o) h = go (isGranted f (offer o)) (record { number = getD (offerSaid f o .values) 0 0; show = o .show; size = o .size; compute = computeOf f o; deadline = o .deadline }) (ap (computeOr (f .costs .compute)) h)
   where
     go : (b : Bool) (x : Accepted) → x .compute ≡ f .costs .compute → All (At (f .costs)) (cond b (x ∷ []) [])
-    go true x e = (ap (withCompute (f .costs)) e, tt)
+    go true x e = (ap (costsFor (f .costs)) e, tt)
     go false x e = tt
 call-at f (withdraw n) h = tt
 call-at f (move t m) h = tt
@@ -78,7 +78,7 @@ run-at c w (x ∷ cs) e h k =
     run-at c (note w x) cs (handed-keeps (w .farm) x .costs ∙ e) (h .1)
     (all-join (At c) (w .jobs) (jobsBy (w .farm) x) k (subst (λ (d : FarmCosts). All (At d) (jobsBy (w .farm) x)) e (call-at (w .farm) x (h .0))))
 
--- **No compute cost given.** Where no offer of a list gives one, every job is accepted with the farm's costs, so that by demand 3 its chunks are sent and
+-- **No compute cost given.** Where no offer of a list gives one, every job is accepted with the costs for the farm's, so that by demand 3 its chunks are sent and
 -- finish as if there were no other.
-pub none-given : (f : Farm) (cs : List Call) → All GivesNone cs → All (λ (x : Accepted). acceptedCosts (f .costs) x ≡ f .costs) (run (opening f) cs .jobs)
+pub none-given : (f : Farm) (cs : List Call) → All GivesNone cs → All (λ (x : Accepted). acceptedCosts (f .costs) x ≡ defaultCosts (f .costs)) (run (opening f) cs .jobs)
 none-given f cs h = run-at (f .costs) (opening f) cs refl h tt

@@ -151,13 +151,13 @@ booking-sized j e h k =
     }
 
 -- The best booking of a job whose other figures are within the limits is one of a plan.
-pub best-planned : (f : Farm) (b : Busy) (j : Job) → f .nodes ≤ 64 → length (b .free) ≡ 64 → HeadWithin (f .used) (f .shows) j
+pub best-planned : (f : Farm) (b : Busy) (j : Job) → f .nodes ≤ 64 → f .costs .returning ≤ 10_000 → length (b .free) ≡ 64 → HeadWithin (f .used) (f .shows) j
     → Best (requestOf (termsOf f) b j) (b .free) (step (termsOf f) b j .booking) → Planned f (step (termsOf f) b j)
-best-planned f b j n l h x =
+best-planned f b j n r l h x =
     let w = termsOf f in
     let q = step w b j .booking in
     let k = x .best .choice in
-    let s = best-sends w b j n (omega arith) (h .deadline) x in
+    let s = best-sends w b j n r (omega arith) (h .deadline) x in
     let some : 1 ≤ length (units q) = some-share (units q) (omega (arith, k .all, h .size .0)) in
     let by : q .start ≤ j .deadline = finish-latest (ownCosts (f .costs) j) (q .start) (j .deadline) (units q) .0 (k .ends) .0 in
     record {
@@ -210,7 +210,7 @@ module _ (f : Farm) (o : Offer) (sized : Sized f) (g : OfferGranted f o) (yes′
   jobs-planned : All (Planned (withPlan f (planned f o))) (planned f o)
   jobs-planned =
       plan-all (HeadWithin (f .used + 1) (f .shows)) (Planned (withPlan f (planned f o))) (termsOf f) (busyOf f) (queueOf f o)
-      (λ b j l h x. best-planned (withPlan f (planned f o)) b j (figures .nodes .1) l h x) (sized .free)
+      (λ b j l h x. best-planned (withPlan f (planned f o)) b j (figures .nodes .1) (figures .costs .returning) l h x) (sized .free)
       (queue-heads f o g) best
 
   plan-count : length (planned f o) ≡ f .waiting + 1
