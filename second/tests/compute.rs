@@ -16,7 +16,7 @@ use second::share::Costs;
 const LONGEST: u64 = 9_999_999_999_999;
 
 /// The farm's m and p are 1 and 2, its setups 0.
-const MIXED: &str = "farm 3 1 2 0 0 30 0\n\
+const MIXED: &str = "farm 3 1 2 0 0 0 30 0\n\
     job 1 10 18\n\
     job 2 3 22 4\n\
     job 2 3 25 4\n\
@@ -79,7 +79,7 @@ fn a_mixed_day_by_hand() {
 /// The answer to one offer on a farm of two shows whose clock is 3.
 fn check_offer(line: &str, answer: &str) {
     check(
-        &format!("farm 1 1 1 0 0 5 5\nclock 3\n{line}\n"),
+        &format!("farm 1 1 1 0 0 0 5 5\nclock 3\n{line}\n"),
         &format!("open 1 2\nclock 3 0\n{answer}\n"),
     );
 }
@@ -108,7 +108,7 @@ fn the_questions_are_asked_in_order() {
 
 #[test]
 fn a_full_queue_is_asked_after_p_and_before_the_walk() {
-    let mut farm = Farm::<Quick>::open(2, Costs::new(1, 1, 0, 0), &[0]).unwrap();
+    let mut farm = Farm::<Quick>::open(2, Costs::new(1, 1, 0, 0, 0), &[0]).unwrap();
     for job in 0..MOST_WAITING as u64 {
         farm.offer(1, 1, 1_000, Some(1 + job % 3)).unwrap();
     }
@@ -124,7 +124,7 @@ fn a_full_queue_is_asked_after_p_and_before_the_walk() {
 /// The farm's p at one limit and the job's at the other.
 #[test]
 fn p_has_the_tables_limits() {
-    let mut least = Farm::<Quick>::open(1, Costs::new(1, 1, 0, 0), &[0]).unwrap();
+    let mut least = Farm::<Quick>::open(1, Costs::new(1, 1, 0, 0, 0), &[0]).unwrap();
     for compute in [0, MOST_COMPUTE_COST + 1, LONGEST] {
         let offer = least.offer(1, 1, LAST_TICK, Some(compute));
         assert_eq!(offer, Err(Refusal::Costs));
@@ -136,7 +136,7 @@ fn p_has_the_tables_limits() {
     let yes = least.offer(1, 999_999, LAST_TICK - 1, most).unwrap();
     assert_eq!((yes.start, yes.finish), (0, LAST_TICK - 1));
 
-    let costs = Costs::new(1, MOST_COMPUTE_COST, 0, 0);
+    let costs = Costs::new(1, MOST_COMPUTE_COST, 0, 0, 0);
     let mut greatest = Farm::<Quick>::open(1, costs, &[0]).unwrap();
     assert_eq!(greatest.offer(1, MOST_UNITS, LAST_TICK, None), refused);
     assert_eq!(greatest.offer(1, MOST_UNITS, 1_999_999, Some(1)), refused);
@@ -155,7 +155,7 @@ fn p_has_the_tables_limits() {
 #[test]
 fn a_cheaper_p_may_be_refused() {
     check(
-        "farm 2 1 4 0 0 0\njob 1 2 11\njob 1 2 6 2\njob 1 2 6 3\nclock 5\n",
+        "farm 2 1 4 0 0 0 0\njob 1 2 11\njob 1 2 6 2\njob 1 2 6 3\nclock 5\n",
         "open 2 1\nyes 1 0 10 1\nno 8\nyes 2 0 5 2\n\
          chunk 2 1 1 1 0 1 4\nchunk 2 1 2 1 1 2 5\n\
          chunk 1 1 1 1 5 6 10\nchunk 1 1 2 1 6 7 11\nclock 5 4\n",
@@ -219,7 +219,7 @@ fn the_exhaustive_walk_books_by_own_p() {
 /// Every line that is ever booked takes what the costs with its job's p say.
 #[test]
 fn lines_take_what_the_jobs_own_costs_say() {
-    let costs = Costs::new(3, 20, 2, 5);
+    let costs = Costs::new(3, 20, 2, 5, 0);
     let mut farm = Farm::<Quick>::open(5, costs, &[0]).unwrap();
     let mut lines = [Record::default(); LENT_RECORDS];
     // By job number, from 1.

@@ -12,25 +12,38 @@ const GREATEST: Costs = Costs {
     compute: MOST_COMPUTE_COST,
     link_setup: MOST_SETUP,
     node_setup: MOST_SETUP,
+    return_cost: MOST_RETURN_COST,
+};
+
+const GREATEST_BUT_R: Costs = Costs {
+    return_cost: 0,
+    ..GREATEST
 };
 
 #[test]
 fn the_greatest_job_at_the_greatest_costs() {
-    let mut farm = Farm::<Quick>::open(64, GREATEST, &[LAST_TICK; 32]).unwrap();
-    // One node would need 1,010,002,000,000 ticks.
-    let yes = farm.offer(32, MOST_UNITS, LAST_TICK, None).unwrap();
-    assert_eq!((yes.start, yes.nodes), (0, 2));
-    let mut one = Farm::<Quick>::open(1, GREATEST, &[0]).unwrap();
-    assert_eq!(
-        one.offer(1, MOST_UNITS, LAST_TICK, None),
-        Err(Refusal::NotBookable)
-    );
-    assert!(one.offer(1, 900_000, LAST_TICK, None).is_ok());
+    for costs in [GREATEST, GREATEST_BUT_R] {
+        let mut farm = Farm::<Quick>::open(64, costs, &[LAST_TICK; 32]).unwrap();
+        // One node would need 1,020,002,000,000 ticks, without r 1,010,002,000,000.
+        let yes = farm.offer(32, MOST_UNITS, LAST_TICK, None).unwrap();
+        assert_eq!((yes.start, yes.nodes), (0, 2));
+        let mut one = Farm::<Quick>::open(1, costs, &[0]).unwrap();
+        assert_eq!(
+            one.offer(1, MOST_UNITS, LAST_TICK, None),
+            Err(Refusal::NotBookable)
+        );
+        assert!(one.offer(1, 900_000, LAST_TICK, None).is_ok());
+    }
 }
 
 #[test]
 fn held_ticks_fill_all_nodes() {
-    let mut farm = Farm::<Quick>::open(64, GREATEST, &[7]).unwrap();
+    held_ticks_fill_all_nodes_at(GREATEST);
+    held_ticks_fill_all_nodes_at(GREATEST_BUT_R);
+}
+
+fn held_ticks_fill_all_nodes_at(costs: Costs) {
+    let mut farm = Farm::<Quick>::open(64, costs, &[7]).unwrap();
     let mut granted = 0;
     while farm.offer(1, MOST_UNITS, LAST_TICK, None).is_ok() {
         granted += 1;
@@ -48,7 +61,7 @@ fn held_ticks_fill_all_nodes() {
 
 #[test]
 fn the_least_costs_and_the_last_ticks() {
-    let least = Costs::new(1, 1, 0, 0);
+    let least = Costs::new(1, 1, 0, 0, 0);
     let mut farm = Farm::<Quick>::open(64, least, &[0]).unwrap();
     farm.move_clock(LAST_TICK - 2, &mut []).unwrap();
     assert_eq!(

@@ -4,7 +4,7 @@ use second::program::answers;
 use std::io::{BufRead, BufReader, Write};
 use std::process::{Command, Stdio};
 
-const OPENING: &[u8] = b"farm\t3\t1\t2\t0\t0\t30\t0\n";
+const OPENING: &[u8] = b"farm\t3\t1\t2\t0\t0\t0\t30\t0\n";
 
 /// The answer to one line of an open farm.
 fn answer(line: &[u8]) -> Vec<u8> {
@@ -44,7 +44,7 @@ fn another_shape_is_unreadable() {
         b"clock\tx",
         b"account\t1\t1",
         b"account\t",
-        b"farm\t1\t1\t1\t0\t0\t0",
+        b"farm\t1\t1\t1\t0\t0\t0\t0",
         b"withdraw",
         b"withdraw\t",
         b"withdraw\t1\t",
@@ -76,9 +76,9 @@ fn lines_before_a_farm() {
     assert_eq!(answers(b""), b"");
     assert_eq!(answers(b"\n\nclock\t0"), b"no\t11\nno\t11\nno\t11\n");
     assert_eq!(answers(b"farm\t1\t1\t1\t0"), b"no\t11\n");
-    assert_eq!(answers(b"farm\t1\t1\t1\t0\t0\t"), b"no\t11\n");
+    assert_eq!(answers(b"farm\t1\t1\t1\t0\t0\t0\t"), b"no\t11\n");
     let many = [
-        b"farm\t1\t1\t1\t0\t0".to_vec(),
+        b"farm\t1\t1\t1\t0\t0\t0".to_vec(),
         b"\t1".repeat(50),
         b"\tx".to_vec(),
     ]
@@ -89,8 +89,8 @@ fn lines_before_a_farm() {
 
 #[test]
 fn long_lines_are_answered_once() {
-    // 14 bytes and 505 fields of two are 1,024 bytes.
-    let longest = [b"farm\t1\t1\t1\t0\t0".to_vec(), b"\t1".repeat(505)].concat();
+    // 16 bytes and 504 fields of two are 1,024 bytes.
+    let longest = [b"farm\t1\t1\t1\t0\t0\t0".to_vec(), b"\t1".repeat(504)].concat();
     assert_eq!(longest.len(), 1_024);
     assert_eq!(answers(&longest), b"no\t3\n");
     let longer = [&longest[..], b"1"].concat();
@@ -115,7 +115,7 @@ fn a_pipe_is_answered_at_once() {
     let mut stdin = child.stdin.take().unwrap();
     let mut stdout = BufReader::new(child.stdout.take().unwrap());
     for (line, expected) in [
-        ("farm\t3\t1\t2\t0\t0\t30\t0\n", "open\t3\t2\n"),
+        ("farm\t3\t1\t2\t0\t0\t0\t30\t0\n", "open\t3\t2\n"),
         ("job\t1\t10\t18\n", "yes\t1\t0\t18\t2\n"),
         ("account\t2\n", "account\t2\t0\t0\n"),
     ] {

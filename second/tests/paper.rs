@@ -10,7 +10,7 @@ use second::quick::Quick;
 use second::refusal::Refusal;
 use second::share::Costs;
 
-const LISTING: &str = "farm 3 1 2 0 0 30 0\njob 1 10 18\njob 2 3 20\njob 2 2 12\n\
+const LISTING: &str = "farm 3 1 2 0 0 0 30 0\njob 1 10 18\njob 2 3 20\njob 2 2 12\n\
     clock 10\naccount 1\naccount 2\n";
 
 const LISTING_ANSWERS: &str = "open 3 2\nyes 1 0 18 2\nyes 2 10 19 1\nno 8\n\
@@ -95,7 +95,7 @@ fn windows_k_to_m() {
 
 fn open(nodes: u64, costs: [u64; 4]) -> Farm<Quick> {
     let [m, p, st, sc] = costs;
-    Farm::open(nodes, Costs::new(m, p, st, sc), &[0]).unwrap()
+    Farm::open(nodes, Costs::new(m, p, st, sc, 0), &[0]).unwrap()
 }
 
 fn accepted(job: u64, start: u64, finish: u64, nodes: usize) -> Accepted {
@@ -109,38 +109,41 @@ fn accepted(job: u64, start: u64, finish: u64, nodes: usize) -> Accepted {
 
 #[test]
 fn openings_are_refused_in_order() {
-    check("farm 0 0 1 0 0\nfarm 65 1 1 0 0 1\n", "no 1\nno 1\n");
-    check("farm 1 0 1 0 0\nfarm 1 10001 1 0 0 1\n", "no 2\nno 2\n");
-    check("farm 1 1 0 0 0 1\nfarm 1 1 1000001 0 0 1\n", "no 2\nno 2\n");
+    check("farm 0 0 1 0 0 0\nfarm 65 1 1 0 0 0 1\n", "no 1\nno 1\n");
+    check("farm 1 0 1 0 0 0\nfarm 1 10001 1 0 0 0 1\n", "no 2\nno 2\n");
     check(
-        "farm 1 1 1 1000001 0 1\nfarm 1 1 1 0 1000001 1\n",
+        "farm 1 1 0 0 0 0 1\nfarm 1 1 1000001 0 0 0 1\n",
         "no 2\nno 2\n",
     );
     check(
-        "farm 1 1 1 0 0\nfarm 1 1 1 0 0 1000000000001\n",
+        "farm 1 1 1 1000001 0 0 1\nfarm 1 1 1 0 1000001 0 1\n",
+        "no 2\nno 2\n",
+    );
+    check(
+        "farm 1 1 1 0 0 0\nfarm 1 1 1 0 0 0 1000000000001\n",
         "no 3\nno 3\n",
     );
-    let shows_33 = format!("farm 1 1 1 0 0{}\n", " 7".repeat(33));
+    let shows_33 = format!("farm 1 1 1 0 0 0{}\n", " 7".repeat(33));
     check(&shows_33, "no 3\n");
-    let shows_32 = format!("farm 64 10000 1000000 1000000 1000000{}", " 7".repeat(32));
+    let shows_32 = format!("farm 64 10000 1000000 1000000 1000000 0{}", " 7".repeat(32));
     check(&shows_32, "open 64 32\n");
 }
 
 #[test]
 fn a_refused_opening_leaves_no_farm() {
     check(
-        "farm 0 1 1 0 0 1\naccount 1\nfarm 1 1 1 0 0 1\naccount 1\n",
+        "farm 0 1 1 0 0 0 1\naccount 1\nfarm 1 1 1 0 0 0 1\naccount 1\n",
         "no 1\nno 11\nopen 1 1\naccount 1 0 0\n",
     );
     check(
-        "farm 1 1 1 0 0 1\nfarm 0 1 1 0 0 1\nfarm x\n",
+        "farm 1 1 1 0 0 0 1\nfarm 0 1 1 0 0 0 1\nfarm x\n",
         "open 1 1\nno 11\nno 11\n",
     );
 }
 
 #[test]
 fn offers_are_refused_in_order() {
-    let day = |line: &str| format!("farm 1 1 1 0 0 5 5\nclock 3\n{line}\n");
+    let day = |line: &str| format!("farm 1 1 1 0 0 0 5 5\nclock 3\n{line}\n");
     let check = |line: &str, answer: &str| {
         check(&day(line), &format!("open 1 2\nclock 3 0\n{answer}\n"));
     };
@@ -161,7 +164,7 @@ fn offers_are_refused_in_order() {
 
 #[test]
 fn the_129th_waiting_job_is_refused() {
-    let mut day = String::from("farm 2 1 1 0 0 0\n");
+    let mut day = String::from("farm 2 1 1 0 0 0 0\n");
     day += &"job 1 1 1000\n".repeat(129);
     day += "job 1 0 1000\nclock 0\njob 1 1 1000\njob 1 1 1000\n";
     let given = String::from_utf8(answers(&tabs(&day))).unwrap();
@@ -177,7 +180,7 @@ fn the_129th_waiting_job_is_refused() {
 #[test]
 fn a_move_issues_1024_lines_and_no_more() {
     let window = 64 + 10_000;
-    let mut day = String::from("farm 64 1 10000 0 0 0\n");
+    let mut day = String::from("farm 64 1 10000 0 0 0 0\n");
     for job in 1..=16 {
         day += &format!("job 1 64 {}\n", job * window);
     }

@@ -10,6 +10,7 @@ fn small_costs(random: &mut Random) -> Costs {
         compute: random.between(1, 9),
         link_setup: random.between(0, 4),
         node_setup: random.between(0, 4),
+        return_cost: random.between(0, 5),
     }
 }
 
@@ -19,6 +20,7 @@ fn any_costs(random: &mut Random) -> Costs {
         compute: random.of_any_length(1_000_000).max(1),
         link_setup: random.of_any_length(1_000_000),
         node_setup: random.of_any_length(1_000_000),
+        return_cost: random.of_any_length(10_000),
     }
 }
 
@@ -29,7 +31,8 @@ fn lists(costs: Costs, size: u64, nodes: usize) -> Vec<(u64, Vec<u64>)> {
         let (mut send_end, mut finish) = (0, 0);
         for units in list {
             send_end += costs.link_setup + units * costs.send;
-            finish = finish.max(send_end + costs.node_setup + units * costs.compute);
+            let a_unit = costs.compute + costs.return_cost;
+            finish = finish.max(send_end + costs.node_setup + units * a_unit);
         }
         all.push((finish, list.to_vec()));
     });
@@ -137,10 +140,43 @@ fn one_node_holds_what_division_says() {
             node_setup: 0,
             ..any_costs(&mut random)
         };
-        let unit = costs.send + costs.compute;
-        let units = random.between(1, 1_000_000_000_000 / unit);
-        let windows = Windows::new(costs);
-        assert_eq!(windows.capacity(1, units * unit), units);
-        assert_eq!(windows.capacity(1, units * unit - 1), units - 1);
+        check_division(costs, &mut random);
+    }
+    let greatest = Costs::new(10_000, 1_000_000, 0, 0, 10_000);
+    for _ in 0..1_000 {
+        check_division(greatest, &mut random);
+    }
+}
+
+fn check_division(costs: Costs, random: &mut Random) {
+    let unit = costs.send + costs.compute + costs.return_cost;
+    let units = random.between(1, 1_000_000_000_000 / unit);
+    let windows = Windows::new(costs);
+    assert_eq!(windows.capacity(1, units * unit), units);
+    assert_eq!(windows.capacity(1, units * unit - 1), units - 1);
+}
+
+/// A dearer p in place of r holds the same, beyond the limit of p too.
+#[test]
+fn r_adds_to_p() {
+    let mut random = Random::new(6);
+    for _ in 0..5_000 {
+        let costs = any_costs(&mut random);
+        let dearer = Costs {
+            compute: costs.compute + costs.return_cost,
+            return_cost: 0,
+            ..costs
+        };
+        let (windows, dearer) = (Windows::new(costs), Windows::new(dearer));
+        let size = random.of_any_length(1_000_000).max(1);
+        let enough = random.of_any_length(1_000_000_000_000);
+        let nodes = windows.fewest_nodes(size, enough, 64);
+        assert_eq!(nodes, dearer.fewest_nodes(size, enough, 64));
+        assert_eq!(windows.capacity(64, enough), dearer.capacity(64, enough));
+        if let Some(nodes) = nodes {
+            let least = windows.least_window(nodes, size, enough);
+            assert_eq!(least, dearer.least_window(nodes, size, enough));
+            assert!(windows.shares(size, least).eq(dearer.shares(size, least)));
+        }
     }
 }

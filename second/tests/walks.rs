@@ -32,6 +32,7 @@ fn tiny_farms_show_the_same_timetables() {
             compute: random.between(1, 6),
             link_setup: random.between(0, 2),
             node_setup: random.between(0, 2),
+            return_cost: random.pick(&[0, 0, 1, 2, 4]),
         };
         let nodes = random.between(1, 5);
         let mut quick = Farm::<Quick>::open(nodes, costs, &[0]).unwrap();

@@ -19,7 +19,7 @@ use std::cell::Cell;
 /// job 1 needs its two nodes from 0 on. Without it they take node 1 from 0 to 6,
 /// and job 2 follows on node 2 once their send ends at 2: it ends at 2 + 9 = 11.
 /// Show 1 is issued nothing; show 2 holds 6 + 9.
-const FREED: &str = "farm 3 1 2 0 0 30 0\n\
+const FREED: &str = "farm 3 1 2 0 0 0 30 0\n\
     job 1 10 18\n\
     job 2 3 20\n\
     job 2 2 12\n\
@@ -57,7 +57,7 @@ fn a_withdrawal_frees_nodes_for_the_next_offer() {
 #[test]
 fn window_m_fits_once_job_2_is_gone() {
     check(
-        "farm 3 1 2 0 0 30 0\njob 1 10 18\njob 2 3 20\njob 2 2 21\n\
+        "farm 3 1 2 0 0 0 30 0\njob 1 10 18\njob 2 3 20\njob 2 2 21\n\
          withdraw 2\njob 2 2 21\nclock 10\n",
         "open 3 2\nyes 1 0 18 2\nyes 2 10 19 1\nno 8\n\
          gone 2\nyes 3 10 16 1\nchunk 1 1 1 6 0 6 18\nchunk 1 1 2 4 6 10 18\n\
@@ -70,7 +70,7 @@ fn window_m_fits_once_job_2_is_gone() {
 #[test]
 fn the_others_keep_start_nodes_and_shares() {
     check(
-        "farm 3 1 2 0 0 30 0\njob 1 10 18\njob 2 3 20\nwithdraw 1\n\
+        "farm 3 1 2 0 0 0 30 0\njob 1 10 18\njob 2 3 20\nwithdraw 1\n\
          job 2 1000 20\nclock 9\nclock 10\naccount 1\naccount 2\n",
         "open 3 2\nyes 1 0 18 2\nyes 2 10 19 1\ngone 1\nno 8\n\
          clock 9 0\nchunk 2 2 3 3 10 13 19\nclock 10 1\n\
@@ -82,7 +82,7 @@ fn the_others_keep_start_nodes_and_shares() {
 #[test]
 fn a_job_amid_the_plan_is_withdrawn() {
     check(
-        "farm 3 1 2 0 0 30 0\njob 1 10 18\njob 2 3 20\njob 2 2 22\n\
+        "farm 3 1 2 0 0 0 30 0\njob 1 10 18\njob 2 3 20\njob 2 2 22\n\
          withdraw 2\nclock 18\n",
         "open 3 2\nyes 1 0 18 2\nyes 2 10 19 1\nyes 3 18 22 2\n\
          gone 2\nchunk 1 1 1 6 0 6 18\nchunk 1 1 2 4 6 10 18\n\
@@ -91,7 +91,7 @@ fn a_job_amid_the_plan_is_withdrawn() {
 }
 
 /// The farm's m and p are 1, and it has no setups.
-const NEEDED: &str = "farm 2 1 1 0 0 0\njob 1 1 2\njob 1 5 10\njob 1 8 20\n";
+const NEEDED: &str = "farm 2 1 1 0 0 0 0\njob 1 1 2\njob 1 5 10\njob 1 8 20\n";
 
 const NEEDED_ANSWERS: &str = "open 2 1\nyes 1 0 2 1\nyes 2 2 9 2\nyes 3 9 20 2\n";
 
@@ -156,7 +156,7 @@ fn offers_are_taken_again_once_the_old_job_is_gone() {
 #[test]
 fn only_a_waiting_job_is_withdrawn() {
     check(
-        "farm 1 1 1 0 0 0\nwithdraw 0\nwithdraw 1\njob 1 1 9\nwithdraw 2\n\
+        "farm 1 1 1 0 0 0 0\nwithdraw 0\nwithdraw 1\njob 1 1 9\nwithdraw 2\n\
          withdraw 9999999999999\nclock 0\nwithdraw 1\njob 1 1 9\nwithdraw 02\n\
          withdraw 2\nwithdraw 0\n",
         "open 1 1\nno 12\nno 12\nyes 1 0 2 1\nno 12\n\
@@ -168,7 +168,7 @@ fn only_a_waiting_job_is_withdrawn() {
 #[test]
 fn a_number_is_used_once() {
     check(
-        "farm 1 1 1 0 0 0\njob 1 1 9\nwithdraw 1\njob 1 1 9\nwithdraw 1\n\
+        "farm 1 1 1 0 0 0 0\njob 1 1 9\nwithdraw 1\njob 1 1 9\nwithdraw 1\n\
          job 1 1 9\nwithdraw 2\njob 1 1 9\nclock 9\n",
         "open 1 1\nyes 1 0 2 1\ngone 1\nyes 2 0 2 1\nno 12\n\
          yes 3 2 4 1\ngone 2\nyes 4 2 4 1\n\
@@ -179,7 +179,7 @@ fn a_number_is_used_once() {
 #[test]
 fn a_withdrawal_needs_a_farm_and_one_number() {
     check(
-        "withdraw 1\nwithdraw\nfarm 0 1 1 0 0 0\nwithdraw 1\nfarm 1 1 1 0 0 0\n\
+        "withdraw 1\nwithdraw\nfarm 0 1 1 0 0 0 0\nwithdraw 1\nfarm 1 1 1 0 0 0 0\n\
          job 1 1 9\nwithdraw\nwithdraw 1 1\nwithdraw 1 \nwithdraw  1\n\
          withdraw 00000000000001\nwithdraw x\nclock 0\n",
         "no 11\nno 11\nno 1\nno 11\nopen 1 1\n\
@@ -192,7 +192,7 @@ fn a_withdrawal_needs_a_farm_and_one_number() {
 /// job 64 each behind it starts a tick earlier and the new one at 127.
 #[test]
 fn a_withdrawal_makes_room_in_a_full_queue() {
-    let mut farm = Farm::<Quick>::open(2, Costs::new(1, 1, 0, 0), &[0]).unwrap();
+    let mut farm = Farm::<Quick>::open(2, Costs::new(1, 1, 0, 0, 0), &[0]).unwrap();
     for _ in 0..MOST_WAITING {
         farm.offer(1, 1, 1_000, None).unwrap();
     }
@@ -241,7 +241,8 @@ fn nothing_else_changes() {
     let mut withdrawn = 0;
     for seed in 0..300 {
         let mut random = Random::new(seed);
-        let costs = Costs::new(random.between(1, 9), random.between(1, 60), 2, 3);
+        let (send, compute) = (random.between(1, 9), random.between(1, 60));
+        let costs = Costs::new(send, compute, 2, 3, random.between(0, 30));
         let mut farm = Farm::<Quick>::open(random.between(1, 9), costs, &[40, 0]).unwrap();
         for _ in 0..60 {
             let deadline = farm.clock() + random.between(50, 3_000);

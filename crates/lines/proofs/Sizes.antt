@@ -13,5 +13,5 @@ use Rattle.lines.proofs.Rest as rest
 pub bytes-length : {vs : List Val} (r : Rest) → Is (row rest.the-type) r vs → length (r .bytes) ≡ 1024
 bytes-length r p = sym (length-map (r .bytes) _) ∙ p .1 .1 .1 .0 .1 .0 .1
 
-pub numbers-length : {vs : List Val} (r : Row) → Is (row numbered.the-type) r vs → length (r .numbers) ≡ 38
+pub numbers-length : {vs : List Val} (r : Row) → Is (row numbered.the-type) r vs → length (r .numbers) ≡ 39
 numbers-length r p = sym (length-map (r .numbers) _) ∙ p .1 .1 .1 .1 .0 .1 .0 .1

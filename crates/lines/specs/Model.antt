@@ -61,9 +61,12 @@ pub record Answered : Type 0 where
 abbrev pub unread : Farm → Answered
 unread f = record { farm = f; text = refusal 11 }
 
--- `farm` nodes m p ST SC, then one allowance a show
+-- `farm` nodes m p ST SC r, then one allowance a show
 abbrev pub costsIn : List ℕ → FarmCosts
-costsIn ns = record { send = getD ns 1 0; compute = getD ns 2 0; linksetup = getD ns 3 0; nodesetup = getD ns 4 0 }
+costsIn ns = record { send = getD ns 1 0; compute = getD ns 2 0; linksetup = getD ns 3 0; nodesetup = getD ns 4 0; returning = getD ns 5 0 }
+
+abbrev pub allowancesOf : List ℕ → List ℕ
+allowancesOf ns = drop 6 ns
 
 unfoldable pub farmLine : List ℕ → List ℕ → Answered
 farmLine ns al = record {
@@ -121,7 +124,7 @@ ifInTurn f k x = cond (inTurn k (f .opened)) x (unread f)
 
 -- a line of a kind and its numbers
 unfoldable pub recorded : Farm → Kind → List ℕ → Answered
-recorded f k ns = ifInTurn f k (called f k (length ns) ns (drop 5 ns))
+recorded f k ns = ifInTurn f k (called f k (length ns) ns (allowancesOf ns))
 
 -- at most 1,024 bytes before the newline
 abbrev pub longest : ℕ

@@ -17,7 +17,7 @@ use Rattle.reading.specs.declared.Kind.{Kind}
 use Rattle.reading.specs.declared.Kind.the-variants as kind
 use Rattle.reading.specs.Model.{fields, othersOf, fits, lineKind, readable, allNumbers, numbersOf, rowWith, rowOf}
 use Rattle.lines.specs.declared.Rest.{Rest}
-use Rattle.lines.specs.Model.{Answered, unread, farmLine, offerIn, jobLine, clockLine, accountLine, withdrawLine, inTurn, ifInTurn, called, recorded, answered, longest, Pending, part, long, ended}
+use Rattle.lines.specs.Model.{Answered, unread, allowancesOf, farmLine, offerIn, jobLine, clockLine, accountLine, withdrawLine, inTurn, ifInTurn, called, recorded, answered, longest, Pending, part, long, ended}
 
 -- ---- Rows
 
@@ -32,7 +32,7 @@ rowIn long = rowWith kind.Unreadable []
 
 -- the allowances in a row
 abbrev pub allowancesIn : Row → List ℕ
-allowancesIn r = take (r .count - 5) (drop 5 (r .numbers))
+allowancesIn r = take (r .count - 6) (allowancesOf (r .numbers))
 
 -- the call that a row in its turn is
 abbrev pub calledBy : Farm → Row → Answered
@@ -44,7 +44,7 @@ byRow f r = ifInTurn f (r .kind) (calledBy f r)
 
 -- the row of a farm has its nodes and costs
 abbrev pub FarmRow : Row → Type 0
-FarmRow r = r .kind ≡ kind.Farm → (5 ≤ r .count) × (r .count ≤ 38)
+FarmRow r = r .kind ≡ kind.Farm → (6 ≤ r .count) × (r .count ≤ 39)
 
 -- ---- Lists
 
@@ -97,26 +97,26 @@ few-same m n h = go (leb n 3) refl
     go true e = le-leb (min m n) 3 (omega (arith, leb-true n 3 e))
     go false e = lt-leb (min m n) 3 (omega (arith, leb-false n 3 e))
 
-offer-same : (ns : List ℕ) → offerIn (min 38 (length ns)) (padded 38 ns) ≡ offerIn (length ns) ns
+offer-same : (ns : List ℕ) → offerIn (min 39 (length ns)) (padded 39 ns) ≡ offerIn (length ns) ns
 offer-same ns =
-    rw (few-same 38 (length ns) (omega arith), kept-at 38 ns 0 (omega arith), kept-at 38 ns 1 (omega arith), kept-at 38 ns 2 (omega arith), kept-at 38 ns 3 (omega arith))
+    rw (few-same 39 (length ns) (omega arith), kept-at 39 ns 0 (omega arith), kept-at 39 ns 1 (omega arith), kept-at 39 ns 2 (omega arith), kept-at 39 ns 3 (omega arith))
 
-row-allowances : (k : Kind) (ns : List ℕ) → allowancesIn (rowWith k ns) ≡ take 33 (drop 5 ns)
+row-allowances : (k : Kind) (ns : List ℕ) → allowancesIn (rowWith k ns) ≡ take 33 (allowancesOf ns)
 row-allowances k ns =
-    sym (drop-take 5 (min 38 (length ns)) (padded 38 ns)) ∙ ap (drop 5) (kept-front 38 ns) ∙ drop-take 5 38 ns
+    sym (drop-take 6 (min 39 (length ns)) (padded 39 ns)) ∙ ap (drop 6) (kept-front 39 ns) ∙ drop-take 6 39 ns
 
-farm-same : (k : Kind) (ns : List ℕ) → farmLine (padded 38 ns) (allowancesIn (rowWith k ns)) ≡ farmLine ns (drop 5 ns)
+farm-same : (k : Kind) (ns : List ℕ) → farmLine (padded 39 ns) (allowancesIn (rowWith k ns)) ≡ farmLine ns (allowancesOf ns)
 unfolding farmLine
 farm-same k ns =
-    rw (row-allowances k ns, kept-at 38 ns 0 (omega arith), kept-at 38 ns 1 (omega arith), kept-at 38 ns 2 (omega arith), kept-at 38 ns 3 (omega arith), kept-at 38 ns 4 (omega arith), open-33, open-farm-33)
+    rw (row-allowances k ns, kept-at 39 ns 0 (omega arith), kept-at 39 ns 1 (omega arith), kept-at 39 ns 2 (omega arith), kept-at 39 ns 3 (omega arith), kept-at 39 ns 4 (omega arith), kept-at 39 ns 5 (omega arith), open-33, open-farm-33)
 
-row-called : (f : Farm) (k : Kind) (ns : List ℕ) → calledBy f (rowWith k ns) ≡ called f k (length ns) ns (drop 5 ns)
+row-called : (f : Farm) (k : Kind) (ns : List ℕ) → calledBy f (rowWith k ns) ≡ called f k (length ns) ns (allowancesOf ns)
 unfolding called
 row-called f kind.Farm ns = farm-same kind.Farm ns
 row-called f kind.Job ns = ap (jobLine f) (offer-same ns)
-row-called f kind.Clock ns = ap (clockLine f) (kept-at 38 ns 0 (omega arith))
-row-called f kind.Account ns = ap (accountLine f) (kept-at 38 ns 0 (omega arith))
-row-called f kind.Withdraw ns = ap (withdrawLine f) (kept-at 38 ns 0 (omega arith))
+row-called f kind.Clock ns = ap (clockLine f) (kept-at 39 ns 0 (omega arith))
+row-called f kind.Account ns = ap (accountLine f) (kept-at 39 ns 0 (omega arith))
+row-called f kind.Withdraw ns = ap (withdrawLine f) (kept-at 39 ns 0 (omega arith))
 row-called f kind.Unreadable ns = refl
 
 pub row-recorded : (f : Farm) (k : Kind) (ns : List ℕ) → byRow f (rowWith k ns) ≡ recorded f k ns
@@ -144,11 +144,11 @@ rest-row f r = go (leb (r .fill) longest) refl
     go true e = line-row f (take (r .fill) (r .bytes)) (omega (arith, leb-true (r .fill) longest e, length-take (r .fill) (r .bytes)))
     go false e = sym (no-row f)
 
-five : (k : Kind) (n : ℕ) (b : Bool) → k ≡ kind.Farm → (fits k n && b) ≡ true → 5 ≤ n
-five k n b e h = go (leb 5 n) refl (rw e at h)
+six : (k : Kind) (n : ℕ) (b : Bool) → k ≡ kind.Farm → (fits k n && b) ≡ true → 6 ≤ n
+six k n b e h = go (leb 6 n) refl (rw e at h)
   where
-    go : (t : Bool) → leb 5 n ≡ t → (t && b) ≡ true → 5 ≤ n
-    go true q h = leb-true 5 n q
+    go : (t : Bool) → leb 6 n ≡ t → (t && b) ≡ true → 6 ≤ n
+    go true q h = leb-true 6 n q
     go false q h = absurd (false≢true h)
 
 unreadable-farm : kind.Unreadable ≡ kind.Farm → ⊥
@@ -161,8 +161,8 @@ row-farm long e = absurd (unreadable-farm e)
 row-farm (part l) e = go (readable l) refl e
   where
     go : (t : Bool) → readable l ≡ t → cond t (rowWith (lineKind l) (numbersOf l)) (rowWith kind.Unreadable []) .kind ≡ kind.Farm
-        → (5 ≤ cond t (rowWith (lineKind l) (numbersOf l)) (rowWith kind.Unreadable []) .count) × (cond t (rowWith (lineKind l) (numbersOf l)) (rowWith kind.Unreadable []) .count ≤ 38)
-    go true e k = let n = five (lineKind l) (length (othersOf (fields l))) (allNumbers (othersOf (fields l))) k e in let m = length-map (othersOf (fields l)) value in (omega arith, omega arith)
+        → (6 ≤ cond t (rowWith (lineKind l) (numbersOf l)) (rowWith kind.Unreadable []) .count) × (cond t (rowWith (lineKind l) (numbersOf l)) (rowWith kind.Unreadable []) .count ≤ 39)
+    go true e k = let n = six (lineKind l) (length (othersOf (fields l))) (allNumbers (othersOf (fields l))) k e in let m = length-map (othersOf (fields l)) value in (omega arith, omega arith)
     go false e k = absurd (unreadable-farm k)
 
 -- ---- In its turn, and out of it

@@ -15,9 +15,9 @@ use planner::Reply;
 use reading::Kind;
 use reading::Row;
 
-// An opening: nodes, the costs m p ST SC, then one allowance a show.
+// An opening: nodes, the costs m p ST SC r, then one allowance a show.
 pub fn opening(row: Row) -> Reply
-    requires { ⌜ (5 ≤ row .count) × (row .count ≤ 38) ⌝ }
+    requires { ⌜ (6 ≤ row .count) × (row .count ≤ 39) ⌝ }
     ensures { λ r. ⌜ Replies r (openSaid (getD (row .numbers) 0 0) (costsIn (row .numbers)) (allowancesIn row)) (openFarm (getD (row .numbers) 0 0) (costsIn (row .numbers)) (allowancesIn row)) ⌝ }
 {
     let numbers = row.numbers;
@@ -27,8 +27,9 @@ pub fn opening(row: Row) -> Reply
         compute: numbers[2],
         linksetup: numbers[3],
         nodesetup: numbers[4],
+        returning: numbers[5],
     };
-    Farm::open(numbers[0], costs, &numbers[5..count])
+    Farm::open(numbers[0], costs, &numbers[6..count])
 }
 
 // The fourth of `count` numbers, where there is one.

@@ -94,6 +94,7 @@ fn main() {
         compute: 2,
         linksetup: 0,
         nodesetup: 0,
+        returning: 0,
     };
     let opened = put_reply(Farm::open(3, costs, &[30, 0]));
     let one = put_reply(opened.offer(offered(1, 10, 18)));

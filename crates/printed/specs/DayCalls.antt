@@ -23,7 +23,7 @@ use Rattle.planner.specs.Clock.{issued, moveAsked, moveSaid, moveFarm, moveMemo
 use Rattle.reading.specs.declared.Kind.{Kind}
 use Rattle.reading.specs.declared.Kind.the-variants as kind
 use Rattle.reading.specs.Model.{lineKind, readable, numbersOf}
-use Rattle.lines.specs.Model.{refusal, answerText, chunkText, chunkTexts, Answered, unread, costsIn, farmLine, computeIn, offerIn, jobLine, lent, clockLine, accountLine, withdrawLine, inTurn, called, recorded, longest, answered}
+use Rattle.lines.specs.Model.{refusal, answerText, chunkText, chunkTexts, Answered, unread, costsIn, allowancesOf, farmLine, computeIn, offerIn, jobLine, lent, clockLine, accountLine, withdrawLine, inTurn, called, recorded, longest, answered}
 use Rattle.demands.specs.Kept.{run-keeps}
 use Rattle.demands.specs.CallLists.{Call, offer, withdraw, move, withStart, linesBy, Accepted, jobsBy, goneBy, History, opening, note, run}
 use Rattle.demands.specs.BegunJobs.{chunkOf}
@@ -85,7 +85,7 @@ abbrev pub unreadPrints : List Print
 unreadPrints = answer (refused 11) ∷ []
 
 unfoldable pub recordedPrints : Farm → Kind → List ℕ → List Print
-recordedPrints f k ns = cond (inTurn k (f .opened)) (calledPrints f k ns (drop 5 ns)) unreadPrints
+recordedPrints f k ns = cond (inTurn k (f .opened)) (calledPrints f k ns (allowancesOf ns)) unreadPrints
 
 -- what a line prints
 unfoldable pub linePrints : Farm → List ℕ → List Print
@@ -156,7 +156,7 @@ acceptedIn f ls = readIn acceptedOn f ls
 
 kind-farm : (w : History) (k : Kind) (ns : List ℕ) → w .farm .opened ≡ true → recorded (w .farm) k ns .farm ≡ run w (callOf k ns) .farm
 unfolding recorded called jobLine clockLine accountLine withdrawLine run
-kind-farm w kind.Farm ns o = ap (λ (b : Bool). cond {A = Answered} (not b) (farmLine ns (drop 5 ns)) (unread (w .farm)) .farm) o
+kind-farm w kind.Farm ns o = ap (λ (b : Bool). cond {A = Answered} (not b) (farmLine ns (allowancesOf ns)) (unread (w .farm)) .farm) o
 kind-farm w kind.Job ns o = ap (λ (b : Bool). cond {A = Answered} b (jobLine (w .farm) (offerIn (length ns) ns)) (unread (w .farm)) .farm) o
 kind-farm w kind.Clock ns o =
     ap (λ (b : Bool). cond {A = Answered} b (clockLine (w .farm) (getD ns 0 0)) (unread (w .farm)) .farm) o
@@ -224,8 +224,8 @@ recorded-text : (f : Farm) (k : Kind) (ns : List ℕ) → printTexts (recordedPr
 unfolding recorded recordedPrints
 recorded-text f k ns = go (inTurn k (f .opened))
   where
-    go : (b : Bool) → printTexts (cond b (calledPrints f k ns (drop 5 ns)) unreadPrints) ≡ cond {A = Answered} b (called f k (length ns) ns (drop 5 ns)) (unread f) .text
-    go true = called-text f k ns (drop 5 ns)
+    go : (b : Bool) → printTexts (cond b (calledPrints f k ns (allowancesOf ns)) unreadPrints) ≡ cond {A = Answered} b (called f k (length ns) ns (allowancesOf ns)) (unread f) .text
+    go true = called-text f k ns (allowancesOf ns)
     go false = unread-text
 
 -- What a line is answered is the text of what it prints.
@@ -283,10 +283,10 @@ module _ {A : Type 0} (r : Farm → List ℕ → Print → List A) (noted : Hist
   kind-read w k ns o = go k
     where
       read : (k : Kind) → Bool → List A
-      read k b = noted w ++ collect (r (w .farm) ns) (cond b (calledPrints (w .farm) k ns (drop 5 ns)) unreadPrints)
+      read k b = noted w ++ collect (r (w .farm) ns) (cond b (calledPrints (w .farm) k ns (allowancesOf ns)) unreadPrints)
 
       in-turn : (k : Kind) → inTurn k (w .farm .opened) ≡ true → read k (inTurn k (w .farm .opened)) ≡ noted (run w (callOf k ns))
-      in-turn k e = ap (read k) e ∙ x .calls w k ns (drop 5 ns)
+      in-turn k e = ap (read k) e ∙ x .calls w k ns (allowancesOf ns)
 
       out-of-turn : (k : Kind) → inTurn k (w .farm .opened) ≡ false → read k (inTurn k (w .farm .opened)) ≡ noted w
       out-of-turn k e = ap (read k) e ∙ nothing w _ (unread-none (w .farm) ns)
@@ -335,7 +335,7 @@ module _ {A : Type 0} (r : Farm → List ℕ → Print → List A) (noted : Hist
       ns = numbersOf l
 
       opened : (k : Kind) → collect (r unopened ns) (recordedPrints unopened k ns) ≡ []
-      opened kind.Farm = ap (λ (k : List A). k ++ []) (x .opens unopened ns (getD ns 0 0) (costsIn ns) (drop 5 ns))
+      opened kind.Farm = ap (λ (k : List A). k ++ []) (x .opens unopened ns (getD ns 0 0) (costsIn ns) (allowancesOf ns))
       opened kind.Job = unread-none unopened ns
       opened kind.Clock = unread-none unopened ns
       opened kind.Account = unread-none unopened ns

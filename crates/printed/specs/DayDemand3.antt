@@ -10,7 +10,7 @@ use Prim.Native.Nat.{ℕ, zero, suc, _+_, _-_}
 use native.Mathlib.Omega.{arith}
 use borrow.Author.Tests.{eqb-false}
 use lib.Dec.{leb, eqb}
-use lib.ListN.{length, getD, drop, replicate, List·getD-append}
+use lib.ListN.{length, getD, replicate, List·getD-append}
 use Rattle.lists.specs.Laws.{All, all-map, all-of, all-image, at-member}
 use Rattle.limits.specs.declared.FarmCosts.{FarmCosts}
 use Rattle.limits.specs.Says.{between-is}
@@ -22,7 +22,7 @@ use Rattle.planner.specs.Clock.{holds}
 use Rattle.reading.specs.declared.Kind.{Kind}
 use Rattle.reading.specs.declared.Kind.the-variants as kind
 use Rattle.reading.specs.Model.{lineKind, readable, numbersOf}
-use Rattle.lines.specs.Model.{Answered, unread, costsIn, farmLine, accountLine, inTurn, called, recorded, longest, answered}
+use Rattle.lines.specs.Model.{Answered, unread, costsIn, allowancesOf, farmLine, accountLine, inTurn, called, recorded, longest, answered}
 use Rattle.demands.specs.CallLists.{Call, Accepted, History, opening, run, heldOf, linesFor, FromFirst}
 use Rattle.demands.specs.BegunJobs.{chunkOf}
 use Rattle.demands.specs.Demand1.{open-keeps}
@@ -41,7 +41,7 @@ pub record Reads (l : List ℕ) (k : Kind) : Type 0 where
 
 -- the allowances on a `farm` line, and the farm that it opens
 abbrev pub allowancesOn : List ℕ → List ℕ
-allowancesOn l = drop 5 (numbersOf l)
+allowancesOn l = allowancesOf (numbersOf l)
 
 abbrev pub farmOn : List ℕ → Farm
 farmOn l = openFarm (getD (numbersOf l) 0 0) (costsIn (numbersOf l)) (allowancesOn l)
@@ -240,7 +240,7 @@ other-stays : (l : List ℕ) (k : Kind) → Reads l k → inTurn k false ≡ fal
 unfolding recorded
 other-stays l k h e =
     ap (λ (x : Answered). x .farm) (answered-read unopened l k h)
-    ∙ ap (λ (b : Bool). cond {A = Answered} b (called unopened k (length (numbersOf l)) (numbersOf l) (drop 5 (numbersOf l))) (unread unopened) .farm) e
+    ∙ ap (λ (b : Bool). cond {A = Answered} b (called unopened k (length (numbersOf l)) (numbersOf l) (allowancesOf (numbersOf l))) (unread unopened) .farm) e
 
 unread-stays : (l : List ℕ) → readable l ≡ false → Stays l
 unfolding answered

@@ -16,10 +16,10 @@ use Rattle.printing.specs.Model.{digits, reached, decimal, tabbed, lineText}
 use Rattle.lines.specs.Model.{answerText, chunkTexts, farmLine, jobLine, clockLine, accountLine, called, recorded, answered}
 use Rattle.printed.specs.Model.{linesIn, answers, dayText}
 
--- its lines, a tab for each space
+-- its lines, a 0 for r put into the first and a tab for each space
 abbrev pub listedLines : List ℕ
 listedLines =
-    102 ∷ 97 ∷ 114 ∷ 109 ∷ 9 ∷ 51 ∷ 9 ∷ 49 ∷ 9 ∷ 50 ∷ 9 ∷ 48 ∷ 9 ∷ 48 ∷ 9 ∷ 51 ∷ 48 ∷ 9 ∷ 48 ∷ 10
+    102 ∷ 97 ∷ 114 ∷ 109 ∷ 9 ∷ 51 ∷ 9 ∷ 49 ∷ 9 ∷ 50 ∷ 9 ∷ 48 ∷ 9 ∷ 48 ∷ 9 ∷ 48 ∷ 9 ∷ 51 ∷ 48 ∷ 9 ∷ 48 ∷ 10
     ∷ 106 ∷ 111 ∷ 98 ∷ 9 ∷ 49 ∷ 9 ∷ 49 ∷ 48 ∷ 9 ∷ 49 ∷ 56 ∷ 10
     ∷ 106 ∷ 111 ∷ 98 ∷ 9 ∷ 50 ∷ 9 ∷ 51 ∷ 9 ∷ 50 ∷ 48 ∷ 10
     ∷ 106 ∷ 111 ∷ 98 ∷ 9 ∷ 50 ∷ 9 ∷ 50 ∷ 9 ∷ 49 ∷ 50 ∷ 10

@@ -34,6 +34,7 @@ pub fn start() -> Session
         compute: 0,
         linksetup: 0,
         nodesetup: 0,
+        returning: 0,
     };
     let none = [0u64; 1];
     let reply = Farm::open(0, costs, &none);

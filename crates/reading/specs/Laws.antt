@@ -124,17 +124,17 @@ zeros-small : (n : ℕ) → All Small (replicate n 0)
 zeros-small zero = tt
 zeros-small (suc n) = (omega arith, zeros-small n)
 
--- A row has 38 places, a count of at most 38, and numbers below 10^13, whatever the line.
+-- A row has 39 places, a count of at most 39, and numbers below 10^13, whatever the line.
 pub record Kept (r : Row) : Type 0 where
-  pub places : length (r .numbers) ≡ 38
-  pub count : r .count ≤ 38
+  pub places : length (r .numbers) ≡ 39
+  pub count : r .count ≤ 39
   pub small : All Small (r .numbers)
 
 kept-with : (k : Kind) (ns : List ℕ) → All Small ns → Kept (rowWith k ns)
 kept-with k ns h = record {
-  places = let z : length (replicate {A = ℕ} (38 - length ns) 0) ≡ 38 - length ns = length-replicate _ _ in omega (arith, length-append (take 38 ns) (replicate (38 - length ns) 0), length-take 38 ns);
+  places = let z : length (replicate {A = ℕ} (39 - length ns) 0) ≡ 39 - length ns = length-replicate _ _ in omega (arith, length-append (take 39 ns) (replicate (39 - length ns) 0), length-take 39 ns);
   count = omega arith;
-  small = all-join Small (take 38 ns) (replicate (38 - length ns) 0) (all-take Small 38 ns h) (zeros-small (38 - length ns));
+  small = all-join Small (take 39 ns) (replicate (39 - length ns) 0) (all-take Small 39 ns h) (zeros-small (39 - length ns));
 }
 
 kept-step : (t : Bool) (bs : List ℕ) → readable bs ≡ t → Kept (cond t (rowWith (lineKind bs) (numbersOf bs)) (rowWith kind.Unreadable []))

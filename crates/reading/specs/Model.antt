@@ -82,10 +82,10 @@ kindAmong (k ∷ ks) w = cond (same w (wordOf k)) k (kindAmong ks w)
 unfoldable pub kindOf : List ℕ → Kind
 kindOf w = kindAmong kinds w
 
--- how many numbers follow: nodes and four costs for a farm, then its allowances; show, size and deadline for a job, then its compute cost if it is
+-- how many numbers follow: nodes and five costs for a farm, then its allowances; show, size and deadline for a job, then its compute cost if it is
 -- given; a time; a show; a job
 abbrev pub fits : Kind → ℕ → Bool
-fits kind.Farm n = leb 5 n
+fits kind.Farm n = leb 6 n
 fits kind.Job n = leb 3 n && leb n 4
 fits kind.Clock n = eqb n 1
 fits kind.Account n = eqb n 1
@@ -104,9 +104,9 @@ numbersOf bs = map value (othersOf (fields bs))
 unfoldable pub readable : List ℕ → Bool
 readable bs = fits (lineKind bs) (length (othersOf (fields bs))) && allNumbers (othersOf (fields bs))
 
--- a row of numbers: 38 are kept (nodes, four costs and 33 allowances, one more than any farm has)
+-- a row of numbers: 39 are kept (nodes, five costs and 33 allowances, one more than any farm has)
 abbrev pub rowWith : Kind → List ℕ → Row
-rowWith k ns = record { kind = k; count = min 38 (length ns); numbers = padded 38 ns }
+rowWith k ns = record { kind = k; count = min 39 (length ns); numbers = padded 39 ns }
 
 -- the record of a line: its kind and numbers; no numbers where it cannot be read
 unfoldable pub rowOf : List ℕ → Row

@@ -198,7 +198,7 @@ sets-zeros (suc n) (v ∷ vs) =
     let z : suc n - suc (length vs) ≡ n - length vs = omega arith in
     rw z (sets-cons v (replicate n 0) 0 vs ∙ ap (λ (l : List ℕ). v ∷ l) (sets-zeros n vs))
 
-module _ (xs : List ℕ) (e : ℕ) (k : Kind) (x : Numbers) (cut : e ≡ 0 + before tab xs) (word : k ≡ kindOf (take (e - 0) xs)) (all : x ≡ gathered 0 (replicate 38 0) (behind (drop e xs))) where
+module _ (xs : List ℕ) (e : ℕ) (k : Kind) (x : Numbers) (cut : e ≡ 0 + before tab xs) (word : k ≡ kindOf (take (e - 0) xs)) (all : x ≡ gathered 0 (replicate 39 0) (behind (drop e xs))) where
   at-tab : before tab xs ≡ e
   at-tab = omega arith
 
@@ -209,7 +209,7 @@ module _ (xs : List ℕ) (e : ℕ) (k : Kind) (x : Numbers) (cut : e ≡ 0 + bef
   others-are = rw (fields-cut xs, at-tab)
 
   known-is : allNumbers (behind (drop e xs)) ≡ x .known
-  known-is = sym (ap (λ (y : Numbers). y .known) all ∙ gathered-known 0 (replicate 38 0) (behind (drop e xs)))
+  known-is = sym (ap (λ (y : Numbers). y .known) all ∙ gathered-known 0 (replicate 39 0) (behind (drop e xs)))
 
   -- A field is no number.
   pub row-unknown : x .known ≡ false → rowOf xs ≡ rowWith kind.Unreadable []
@@ -217,8 +217,8 @@ module _ (xs : List ℕ) (e : ℕ) (k : Kind) (x : Numbers) (cut : e ≡ 0 + bef
   row-unknown u = rw (others-are, known-is, u, and-false)
 
   module _ (u : x .known ≡ true) where
-    all-are : x ≡ record { known = true; count = 0 + length (behind (drop e xs)); numbers = sets (replicate 38 0) 0 (map value (behind (drop e xs))) }
-    all-are = all ∙ gathered-all 0 (replicate 38 0) (behind (drop e xs)) (known-is ∙ u)
+    all-are : x ≡ record { known = true; count = 0 + length (behind (drop e xs)); numbers = sets (replicate 39 0) 0 (map value (behind (drop e xs))) }
+    all-are = all ∙ gathered-all 0 (replicate 39 0) (behind (drop e xs)) (known-is ∙ u)
 
     count-is : length (behind (drop e xs)) ≡ x .count
     count-is = let n : x .count ≡ 0 + length (behind (drop e xs)) = ap (λ (y : Numbers). y .count) all-are in omega arith
@@ -229,10 +229,10 @@ module _ (xs : List ℕ) (e : ℕ) (k : Kind) (x : Numbers) (cut : e ≡ 0 + bef
     row-unfit f = rw (first-is, others-are, count-is, f)
 
     -- The line is read.
-    pub row-read : fits k (x .count) ≡ true → rowOf xs ≡ record { kind = k; count = min 38 (x .count); numbers = x .numbers }
+    pub row-read : fits k (x .count) ≡ true → rowOf xs ≡ record { kind = k; count = min 39 (x .count); numbers = x .numbers }
     unfolding rowOf readable
     row-read f =
         let vs = map value (behind (drop e xs)) in
         let n : length vs ≡ x .count = length-map (behind (drop e xs)) value ∙ count-is in
-        let s : x .numbers ≡ padded 38 vs = ap (λ (y : Numbers). y .numbers) all-are ∙ sets-zeros 38 vs in
+        let s : x .numbers ≡ padded 39 vs = ap (λ (y : Numbers). y .numbers) all-are ∙ sets-zeros 39 vs in
         rw (first-is, others-are, count-is, f, known-is, u, s, n)

@@ -24,7 +24,7 @@ pub enum Kind {
 pub struct Row {
     pub kind: Kind,
     pub count: usize,
-    pub numbers: [u64; 38],
+    pub numbers: [u64; 39],
 }
 
 // A field: whether it is a number, and its value.
@@ -42,7 +42,7 @@ const NO_NUMBER: Number = Number {
 struct Numbers {
     known: bool,
     count: usize,
-    numbers: [u64; 38],
+    numbers: [u64; 39],
 }
 
 // Where the byte stands next, at `from` or behind it; the length where it does not. It serves tabs and newlines alike.
@@ -106,7 +106,7 @@ fn fitting(kind: Kind, count: usize) -> bool
     ensures { λ r. ⌜ r ≡ fits kind count ⌝ }
 {
     match kind {
-        Kind::Farm => 5 <= count,
+        Kind::Farm => 6 <= count,
         Kind::Job => 3 <= count && count <= 4,
         Kind::Clock => count == 1,
         Kind::Account => count == 1,
@@ -145,11 +145,11 @@ fn digits(field: &[u8]) -> Number
 }
 
 // A number is stored at its place; past the last place it is not.
-fn stored(numbers: [u64; 38], place: usize, value: u64) -> [u64; 38]
+fn stored(numbers: [u64; 39], place: usize, value: u64) -> [u64; 39]
     ensures { λ r. ⌜ r ≡ set numbers place value ⌝ }
 {
     let mut next = numbers;
-    if place < 38 {
+    if place < 39 {
         next[place] = value;
         return next;
     }
@@ -159,10 +159,10 @@ fn stored(numbers: [u64; 38], place: usize, value: u64) -> [u64; 38]
 // The numbers in the fields behind the tab at `from`, up to the first that is none.
 fn gather(line: &[u8], from: usize) -> Numbers
     requires { ⌜ from ≤ length (now line) ⌝ }
-    ensures { λ r. ⌜ r ≡ gathered 0 (replicate 38 0) (behind (drop from (now (line .entry)))) ⌝ }
+    ensures { λ r. ⌜ r ≡ gathered 0 (replicate 39 0) (behind (drop from (now (line .entry)))) ⌝ }
 {
     let n = line.len();
-    let mut numbers = [0u64; 38];
+    let mut numbers = [0u64; 39];
     let mut count = 0;
     let mut at = from;
     while at < n {
@@ -197,7 +197,7 @@ pub fn unreadable() -> Row
     Row {
         kind: Kind::Unreadable,
         count: 0,
-        numbers: [0; 38],
+        numbers: [0; 39],
     }
 }
 
@@ -217,7 +217,7 @@ pub fn read(line: &[u8]) -> Row
     let numbers = x.numbers;
     Row {
         kind,
-        count: least(38, x.count),
+        count: least(39, x.count),
         numbers,
     }
 }

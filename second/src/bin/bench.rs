@@ -1,13 +1,14 @@
-//! `bench PROGRAM [BEFORE]` times a program, `second` and `second --whole` on the
-//! same long days, taking turns, and compares medians of time and peak resident
-//! memory. BEFORE is an earlier build of the program; it takes its turn in the
-//! same run, and the line also says how many times quicker the program is than
-//! that build, and its memory beside that build's. It is left out of a day that it
-//! answers otherwise, as a build from before a request may. The program itself must
-//! write the same bytes as `second` on every day and end well.
+//! `bench PROGRAM [BEFORE [FILTER...]]` times a program, `second` and
+//! `second --whole` on the same long days, taking turns, and compares medians of
+//! time and peak resident memory. BEFORE is an earlier build of the program; it
+//! takes its turn in the same run, and the line also says how many times quicker the
+//! program is than that build, and its memory beside that build's. It is left out of
+//! a day that it answers otherwise, as a build from before a request may. FILTER, a
+//! command with its arguments, turns a day into one that BEFORE reads, for a request
+//! that changed how lines are written. The program itself must write the same bytes
+//! as `second` on every day and end well.
 
 use second::long_days::{long_days, LongDay};
-use second::program::answers;
 use second::random::Random;
 use std::fs::{self, File};
 use std::io::{self, Read, Write};
@@ -26,19 +27,31 @@ struct Programs<'a> {
     program: &'a Path,
     second: &'a Path,
     before: Option<&'a Path>,
+    /// Empty where the earlier build reads each day as it is.
+    filter: &'a [PathBuf],
+}
+
+/// A day in a file, which goes away with the value.
+struct DayFile {
+    path: PathBuf,
+    bytes: Vec<u8>,
+}
+
+/// A program on a day.
+#[derive(Clone, Copy)]
+struct Turn<'a> {
+    program: &'a Path,
+    argument: Option<&'static str>,
+    day: &'a DayFile,
 }
 
 fn main() -> ExitCode {
     let arguments: Vec<PathBuf> = std::env::args_os().skip(1).map(PathBuf::from).collect();
-    let (program, before) = match &arguments[..] {
-        [program] => (program, None),
-        [program, before] => (program, Some(before.as_path())),
-        _ => {
-            eprintln!("bench PROGRAM [BEFORE]");
-            return ExitCode::FAILURE;
-        }
+    let Some((program, rest)) = arguments.split_first() else {
+        eprintln!("bench PROGRAM [BEFORE [FILTER...]]");
+        return ExitCode::FAILURE;
     };
-    match bench(program, before) {
+    match bench(program, rest) {
         Ok(()) => ExitCode::SUCCESS,
         Err(error) => {
             eprintln!("{error}");
@@ -47,69 +60,127 @@ fn main() -> ExitCode {
     }
 }
 
-fn bench(program: &Path, before: Option<&Path>) -> io::Result<()> {
+fn bench(program: &Path, rest: &[PathBuf]) -> io::Result<()> {
     let second = std::env::current_exe()?.with_file_name("second");
-    let file = std::env::temp_dir().join(format!("bench-{}.day", std::process::id()));
+    let programs = Programs {
+        program,
+        second: &second,
+        before: rest.first().map(PathBuf::as_path),
+        filter: rest.get(1..).unwrap_or_default(),
+    };
     for day in long_days() {
-        fs::write(&file, &day.bytes)?;
-        let programs = Programs {
-            program,
-            second: &second,
-            before,
-        };
-        let measured = on_day(programs, &file, &day);
-        fs::remove_file(&file)?;
-        println!("{}", measured?);
+        println!("{}", programs.on_day(day)?);
     }
     Ok(())
 }
 
-/// One line about one day. A program that answers otherwise does other work, so
-/// its time would say nothing.
-fn on_day(mut programs: Programs, file: &Path, day: &LongDay) -> io::Result<String> {
-    let expected = run(programs.second, file)?.stdout;
-    let answers_alike = |path| -> io::Result<bool> {
-        let given = run(path, file)?;
-        Ok(given.stdout == expected && given.status.success())
-    };
-    if !answers_alike(programs.program)? {
-        return Err(io::Error::other(format!(
-            "{}: {} does not answer as second does",
-            day.name,
-            programs.program.display(),
-        )));
+impl Programs<'_> {
+    /// One line about one day. A program that answers otherwise does other work,
+    /// so its time would say nothing.
+    fn on_day(&self, day: LongDay) -> io::Result<String> {
+        let LongDay { name, lines, bytes } = day;
+        let day = DayFile::new("day", bytes)?;
+        let day_before = DayFile::new("day-before", self.filtered(&day)?)?;
+        let program = Turn::new(self.program, &day);
+        let second = Turn::new(self.second, &day);
+        let before = self.before.map(|before| Turn::new(before, &day_before));
+        let answers = second.output()?.stdout;
+        if !program.gives(&answers)? {
+            let program = self.program.display();
+            let error = format!("{name}: {program} does not answer as second does");
+            return Err(io::Error::other(error));
+        }
+        let alike = before.map_or(Ok(true), |before| before.gives(&answers))?;
+        let before = before.filter(|_| alike);
+        let figures = measure(program, second, before, answers.len())?;
+        let end = if alike {
+            ""
+        } else {
+            "; before answers otherwise"
+        };
+        Ok(format!("{name}: {lines} lines; {figures}{end}"))
     }
-    let Some(before) = programs.before else {
-        return measure(&programs, file, day);
-    };
-    if answers_alike(before)? {
-        return measure(&programs, file, day);
+
+    /// The bytes of a day as the earlier build reads it.
+    fn filtered(&self, day: &DayFile) -> io::Result<Vec<u8>> {
+        let Some((program, arguments)) = self.filter.split_first() else {
+            return Ok(day.bytes.clone());
+        };
+        let mut command = Turn::new(program, day).command()?;
+        Ok(output(command.args(arguments))?.stdout)
     }
-    programs.before = None;
-    let line = measure(&programs, file, day)?;
-    Ok(format!("{line}; before answers otherwise"))
+}
+
+impl DayFile {
+    fn new(name: &str, bytes: Vec<u8>) -> io::Result<Self> {
+        let name = format!("bench-{}-{name}", std::process::id());
+        let path = std::env::temp_dir().join(name);
+        fs::write(&path, &bytes)?;
+        Ok(DayFile { path, bytes })
+    }
+}
+
+impl Drop for DayFile {
+    fn drop(&mut self) {
+        // A file that is gone already is no harm.
+        let _ = fs::remove_file(&self.path);
+    }
+}
+
+impl<'a> Turn<'a> {
+    fn new(program: &'a Path, day: &'a DayFile) -> Self {
+        Turn {
+            program,
+            argument: None,
+            day,
+        }
+    }
+
+    fn command(self) -> io::Result<Command> {
+        let mut command = Command::new(self.program);
+        command.args(self.argument);
+        command.stdin(File::open(&self.day.path)?);
+        Ok(command)
+    }
+
+    fn output(self) -> io::Result<Output> {
+        output(&mut self.command()?)
+    }
+
+    fn gives(self, answers: &[u8]) -> io::Result<bool> {
+        let given = self.output()?;
+        Ok(given.stdout == answers && given.status.success())
+    }
 }
 
 /// An error names the program, as there are several.
-fn run(path: &Path, file: &Path) -> io::Result<Output> {
-    let mut command = Command::new(path);
-    command.stdin(File::open(file)?).stderr(Stdio::inherit());
-    let output = command.output();
-    output.map_err(|error| io::Error::other(format!("{}: {error}", path.display())))
+fn output(command: &mut Command) -> io::Result<Output> {
+    let output = command.stderr(Stdio::inherit()).output();
+    let program = command.get_program().display();
+    output.map_err(|error| io::Error::other(format!("{program}: {error}")))
 }
 
-/// The figures of the programs on a day.
-fn measure(programs: &Programs, file: &Path, day: &LongDay) -> io::Result<String> {
-    let times = medians(&mut commands(programs), file)?;
+/// The figures of the programs on a day that all of them answer with so many bytes.
+fn measure(
+    program: Turn,
+    second: Turn,
+    before: Option<Turn>,
+    answer_bytes: usize,
+) -> io::Result<String> {
+    let whole = Turn {
+        argument: Some("--whole"),
+        ..second
+    };
+    // The earlier build is last, as it may be missing.
+    let turns: Vec<Turn> = [program, second, whole].into_iter().chain(before).collect();
+    let times = medians(&turns)?;
     let (program_time, second_time, whole_time) = (times[0], times[1], times[2]);
-    let program_memory = peak_memory(programs.program, day)?;
-    let second_memory = peak_memory(programs.second, day)?;
-    let line = format!(
-        "{}: {} lines; program {:.2} ms, second {:.2} ms, whole walks {:.2} ms; \
+    let program_memory = peak_memory(program, answer_bytes)?;
+    let second_memory = peak_memory(second, answer_bytes)?;
+    let figures = format!(
+        "program {:.2} ms, second {:.2} ms, whole walks {:.2} ms; \
          times {:.2}, beside whole walks {:.2}; \
          program {program_memory} kB, second {second_memory} kB, memory {:.2}",
-        day.name,
-        day.lines,
         program_time * 1e3,
         second_time * 1e3,
         whole_time * 1e3,
@@ -117,12 +188,12 @@ fn measure(programs: &Programs, file: &Path, day: &LongDay) -> io::Result<String
         program_time / whole_time,
         program_memory as f64 / second_memory as f64,
     );
-    let (Some(before), Some(before_time)) = (programs.before, times.get(3)) else {
-        return Ok(line);
+    let (Some(before), Some(before_time)) = (before, times.get(3)) else {
+        return Ok(figures);
     };
-    let before_memory = peak_memory(before, day)?;
+    let before_memory = peak_memory(before, answer_bytes)?;
     Ok(format!(
-        "{line}; before {:.2} ms, times quicker {:.2}; \
+        "{figures}; before {:.2} ms, times quicker {:.2}; \
          before {before_memory} kB, memory beside before {:.2}",
         before_time * 1e3,
         before_time / program_time,
@@ -130,27 +201,17 @@ fn measure(programs: &Programs, file: &Path, day: &LongDay) -> io::Result<String
     ))
 }
 
-/// The commands that take turns; the earlier build is last, as it may be missing.
-fn commands(programs: &Programs) -> Vec<Command> {
-    let mut whole = Command::new(programs.second);
-    whole.arg("--whole");
-    let program = Command::new(programs.program);
-    let mut commands = vec![program, Command::new(programs.second), whole];
-    commands.extend(programs.before.map(Command::new));
-    commands
-}
-
-/// Median seconds of each command. They take turns, so that a slow moment of
-/// the machine meets them all, and each time in another order: in a fixed one a
-/// program's place cost it up to a fifth.
-fn medians(commands: &mut [Command], file: &Path) -> io::Result<Vec<f64>> {
-    let mut times = vec![Vec::new(); commands.len()];
-    let mut order: Vec<usize> = (0..commands.len()).collect();
+/// Median seconds of each turn. They come one after the other, so that a slow
+/// moment of the machine meets them all, and each time in another order: in a
+/// fixed one a program's place cost it up to a fifth.
+fn medians(turns: &[Turn]) -> io::Result<Vec<f64>> {
+    let mut times = vec![Vec::new(); turns.len()];
+    let mut order: Vec<usize> = (0..turns.len()).collect();
     let mut random = Random::new(1);
     for _ in 0..REPETITIONS {
         shuffle(&mut order, &mut random);
         for &turn in &order {
-            times[turn].push(time(&mut commands[turn], file)?);
+            times[turn].push(time(turns[turn])?);
         }
     }
     Ok(times.into_iter().map(median).collect())
@@ -167,9 +228,10 @@ fn median(mut times: Vec<f64>) -> f64 {
     times[times.len() / 2]
 }
 
-/// Seconds from start to end on a file.
-fn time(command: &mut Command, file: &Path) -> io::Result<f64> {
-    command.stdin(File::open(file)?).stdout(Stdio::null());
+/// Seconds from start to end.
+fn time(turn: Turn) -> io::Result<f64> {
+    let mut command = turn.command()?;
+    command.stdout(Stdio::null());
     let begin = Instant::now();
     command.status()?;
     Ok(begin.elapsed().as_secs_f64())
@@ -178,8 +240,8 @@ fn time(command: &mut Command, file: &Path) -> io::Result<f64> {
 /// The peak resident kilobytes. The day comes through a pipe that stays open,
 /// so the program waits for more when all is answered and can be looked at; the
 /// peak that `wait4` gives would count this process's own memory at the start.
-fn peak_memory(program: &Path, day: &LongDay) -> io::Result<u64> {
-    let mut command = Command::new(program);
+fn peak_memory(turn: Turn, answer_bytes: usize) -> io::Result<u64> {
+    let mut command = turn.command()?;
     let mut child = command
         .stdin(Stdio::piped())
         .stdout(Stdio::piped())
@@ -188,20 +250,19 @@ fn peak_memory(program: &Path, day: &LongDay) -> io::Result<u64> {
     let (Some(mut stdin), Some(mut stdout)) = (stdin, stdout) else {
         return Err(io::Error::other("no pipe"));
     };
-    let expected = answers(&day.bytes).len();
     let (all_read, is_all_read) = mpsc::channel();
     let reader = std::thread::spawn(move || {
         let mut block = vec![0; 1 << 16];
         let mut read = 0;
         while let Ok(length @ 1..) = stdout.read(&mut block) {
             read += length;
-            if read >= expected {
+            if read >= answer_bytes {
                 // Nobody listens once the patience is over.
                 let _ = all_read.send(());
             }
         }
     });
-    stdin.write_all(&day.bytes)?;
+    stdin.write_all(&turn.day.bytes)?;
     // Silence or an early end is no error: the memory so far is read anyway.
     let _ = is_all_read.recv_timeout(PATIENCE);
     let memory = resident_peak(child.id());

@@ -10,7 +10,7 @@ use Rattle.reading.proofs.gather.Statement.{statement}
 use Rattle.reading.proofs.gather.Tie as tie
 
 abbrev Inv-loop : tie.InvT-loop
-Inv-loop line from n numbers₀ count₀ at₀ numbers count at = (count ≤ at) × (at ≤ length line) × (gathered count numbers (behind (drop at line)) ≡ gathered 0 (replicate 38 0) (behind (drop from line)))
+Inv-loop line from n numbers₀ count₀ at₀ numbers count at = (count ≤ at) × (at ≤ length line) × (gathered count numbers (behind (drop at line)) ≡ gathered 0 (replicate 39 0) (behind (drop from line)))
 
 abbrev μ-loop : tie.MeasureT-loop
 μ-loop line from n numbers₀ count₀ at₀ numbers count at = length line - at

@@ -17,6 +17,9 @@ array-read-t13 c = search needs
 array-read-t16 : tie.Need-array-read-t16
 array-read-t16 c = search needs
 
+array-read-t19 : tie.Need-array-read-t19
+array-read-t19 c = search needs
+
 array-read-open-2 : tie.Need-array-read-open-2
 array-read-open-2 c = search needs
 
@@ -43,6 +46,7 @@ opening-spec =
     array-read-t10
     array-read-t13
     array-read-t16
+    array-read-t19
     array-read-open-2
     sub-open
     part-open-start
