@@ -301,18 +301,18 @@ fn is_compute_cost(ticks: u64) -> bool {
 #[test]
 fn r_is_answered_as_a_dearer_p() {
     let mut compared = 0;
-    for day in (0..200).map(day).chain((0..200).map(tiny_day)) {
+    for day in (0..120).map(day).chain((0..120).map(tiny_day)) {
         if let Some((kept, dearer)) = with_dearer_compute(&day) {
             assert!(answers(&kept) == answers(&dearer), "{}", day.escape_ascii());
             compared += 1;
         }
     }
-    assert!(compared > 250, "only {compared} days");
+    assert!(compared > 150, "only {compared} days");
 }
 
 #[test]
 fn tiny_days_with_any_return_cost_are_answered_alike() {
-    for seed in 2_000..2_300 {
+    for seed in 2_000..2_200 {
         let day = with_return(&tiny_day(seed), 1 + seed % 6).unwrap();
         let mut tried = Vec::new();
         run::<Exhaustive>(&day[..], &mut tried).unwrap();
@@ -328,7 +328,7 @@ fn most_random_days_show_the_way_back() {
             let without = with_return(day, 0);
             without.is_some_and(|without| answers(&without) != answers(day))
         };
-        let count = (0..300).map(days).filter(shows).count();
-        assert!(count >= 200, "only {count} days");
+        let count = (0..120).map(days).filter(shows).count();
+        assert!(count >= 80, "only {count} days");
     }
 }

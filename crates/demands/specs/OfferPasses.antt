@@ -24,6 +24,7 @@ use Rattle.planner.specs.Passes.{figuresOf, passesOf, JobWithin, JobSound, With
 use Rattle.planner.specs.Calls.{unopened, openedWith, showsWithin, openFarm, newJob, queueOf, planned, accepts, withPlan, offerAsked, offerFarm, OfferGranted}
 use Rattle.walk.specs.Chain.{Fits, Chain, Proper, chain-follows, chain-apart}
 use Rattle.walk.specs.Order.{by-deadline-perm}
+use Rattle.limits.specs.Model.{CostsWithin}
 use Rattle.limits.specs.Says.{says-costs, says-at-most, between-is}
 use Rattle.soundness.specs.Sweep.{spans-each, spans-all}
 use Rattle.soundness.specs.Sound.{JobKept, Behind, Paired, fits-behind, job-spans}
@@ -151,7 +152,7 @@ booking-sized j e h k =
     }
 
 -- The best booking of a job whose other figures are within the limits is one of a plan.
-pub best-planned : (f : Farm) (b : Busy) (j : Job) → f .nodes ≤ 64 → f .costs .returning ≤ 10_000 → length (b .free) ≡ 64 → HeadWithin (f .used) (f .shows) j
+pub best-planned : (f : Farm) (b : Busy) (j : Job) → f .nodes ≤ 64 → CostsWithin (f .costs) → length (b .free) ≡ 64 → HeadWithin (f .used) (f .shows) j
     → Best (requestOf (termsOf f) b j) (b .free) (step (termsOf f) b j .booking) → Planned f (step (termsOf f) b j)
 best-planned f b j n r l h x =
     let w = termsOf f in
@@ -210,7 +211,7 @@ module _ (f : Farm) (o : Offer) (sized : Sized f) (g : OfferGranted f o) (yes′
   jobs-planned : All (Planned (withPlan f (planned f o))) (planned f o)
   jobs-planned =
       plan-all (HeadWithin (f .used + 1) (f .shows)) (Planned (withPlan f (planned f o))) (termsOf f) (busyOf f) (queueOf f o)
-      (λ b j l h x. best-planned (withPlan f (planned f o)) b j (figures .nodes .1) (figures .costs .returning) l h x) (sized .free)
+      (λ b j l h x. best-planned (withPlan f (planned f o)) b j (figures .nodes .1) (figures .costs) l h x) (sized .free)
       (queue-heads f o g) best
 
   plan-count : length (planned f o) ≡ f .waiting + 1

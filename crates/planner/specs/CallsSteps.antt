@@ -168,7 +168,7 @@ offer-ready f j o =
     let g = passes-within f (o .passes) in
     record {
       answered = answered (defaultCosts (f .costs)) (f .nodes) (g .costs .send .0) (g .nodes .1);
-      returning = g .costs .returning;
+      costs = g .costs;
       free = g .free;
       jobs = all-join (λ (x : Job). (1 ≤ x .size) × (x .deadline ≤ greatest)) (waitingOf f) (j ∷ [])
           (all-map (λ x a. (a .0 .size .0, a .0 .deadline)) (waitingOf f) (passes-jobs f (o .passes))) ((o .size, o .deadline), tt);
@@ -179,7 +179,7 @@ walk-ready f j o =
     let r = offer-ready f j o in
     record {
       answered = r .answered;
-      returning = r .returning;
+      costs = r .costs;
       free = r .free;
       jobs = perm-all (λ (x : Job). (1 ≤ x .size) × (x .deadline ≤ greatest)) (by-deadline-perm (waitingOf f ++ j ∷ [])) (r .jobs);
     }

@@ -22,6 +22,7 @@ use Rattle.timetable.specs.BeginSteps.{chunks, Few, RaisesAll}
 use Rattle.timetable.specs.DueSteps.{IsDue}
 use Rattle.timetable.specs.LinesSteps.{all-lines}
 use Rattle.timetable.specs.Keep.{keep-all, keep-none, keep-every}
+use Rattle.limits.specs.Model.{CostsWithin}
 use Rattle.limits.specs.Says.{between-is}
 use Rattle.soundness.specs.Sound.{JobKept}
 use Rattle.planner.specs.declared.Farm.{Farm}
@@ -105,14 +106,14 @@ ordered-front f ordered sized w o =
 -- ---- Jobs that wait
 
 -- The chunks of a waiting job can be worked out.
-waiting-sends : (f : Farm) (j : Job) → f .nodes ≤ 64 → f .costs .returning ≤ 10_000 → JobSized j → JobWithin (figuresOf f) j → JobKept (figuresOf f) j → Sends (f .costs) j
+waiting-sends : (f : Farm) (j : Job) → f .nodes ≤ 64 → CostsWithin (f .costs) → JobSized j → JobWithin (figuresOf f) j → JobKept (figuresOf f) j → Sends (f .costs) j
 waiting-sends f j n r z w k = record {
   few = w .count .1;
   nodes = length-take-le (j .booking .count) (j .booking .nodes) (omega (arith, z .nodes, w .count .1));
   shares = length-take-le (j .booking .count) (j .booking .shares) (omega (arith, z .shares, w .count .1));
   known = all-map (λ k b. (b .0, omega (arith, b .1))) (chosen (j .booking)) (w .nodes);
   ends = omega (arith, k .ends, w .deadline);
-  returning = r;
+  costs = r;
 }
 
 -- what the jobs of a list bring where they begin: chunks that can be worked out, shows with a cell, cells with room
@@ -133,7 +134,7 @@ module _ (f : Farm) (sized : Sized f) (e : passesOf f ≡ true) where
       let i : j .show - 1 < f .shows = omega (arith, h .show) in
       all-front 0 (λ (x : ℕ). x ≤ 64_000_000_000_000) (f .held) (f .shows) (j .show - 1) i (omega (arith, w .shows .1, sized .held)) (w .held) in
       all-both (λ j z h. record {
-        sends = waiting-sends f j (w .nodes .1) (w .costs .returning) z (h .0) (h .1);
+        sends = waiting-sends f j (w .nodes .1) (w .costs) z (h .0) (h .1);
         show = (h .0 .show .0, omega (arith, h .0 .show .1, w .shows .1));
         room = room j (h .0);
       }) (waitingOf f) (all-take JobSized (f .waiting) (f .jobs) (sized .each)) (passes-jobs f e)

@@ -136,7 +136,7 @@ module _ (f : Farm) (j : Job) (o : Offered f j) (new : j .number ≡ f .used + 1
         let ready = walk-ready f j o in
         let best = walk-best (termsOf f) (busyOf f) queue ready (omega (arith, g .nodes .1)) (sym (w .books) ∙ ok) in
         subst (Sends (f .costs)) (sym at-place)
-        (all-nth noJob (Sends (f .costs)) (plan (termsOf f) (busyOf f) queue) (r .place) (plan-sends (termsOf f) (busyOf f) queue (g .nodes .1) (g .costs .returning) sized (all-map (λ x a. a .1) queue (ready .jobs)) best) (omega (arith, long, w .place ok .0)))
+        (all-nth noJob (Sends (f .costs)) (plan (termsOf f) (busyOf f) queue) (r .place) (plan-sends (termsOf f) (busyOf f) queue (g .nodes .1) (g .costs) sized (all-map (λ x a. a .1) queue (ready .jobs)) best) (omega (arith, long, w .place ok .0)))
 
 -- what question 8 comes to for a new job
 pub record Planned (f : Farm) (j : Job) (r : Decision) : Type 0 where

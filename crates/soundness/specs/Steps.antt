@@ -39,12 +39,12 @@ pub record NoOverflow (c : FarmCosts) (j : Job) : Type 0 where
   pub deadline : j .deadline ≤ greatest
   pub count : j .booking .count ≤ 64
 
--- a job that passes by itself: its nodes have free times, no finish is past the time range, and the way back is within its limit
+-- a job that passes by itself: its nodes have free times, no finish is past the time range, and the costs are within the table
 pub record Bounded (c : FarmCosts) (j : Job) : Type 0 where
   pub count : j .booking .count ≤ 64
   pub nodes : All (λ (k : ℕ). (1 ≤ k) × (k ≤ 64)) (chosen (j .booking))
   pub ends : finishOf c j ≤ greatest
-  pub returning : c .returning ≤ 10_000
+  pub costs : CostsWithin c
 
 -- what a survey of the first n jobs comes to
 pub record Surveys (g : Figures) (js : List Job) (n : ℕ) (r : Survey) : Type 0 where
@@ -176,7 +176,7 @@ all-bounded g js u e =
       count = h .0 .count .1;
       nodes = all-map (λ k b. (b .0, omega (arith, b .1, u .nodes))) (chosen (j .booking)) (h .0 .nodes);
       ends = omega (arith, h .1 .ends, h .0 .deadline);
-      returning = u .costs .returning;
+      costs = u .costs;
     }) js (says-jobs g js .yields e)
 
 -- Their chunks can be worked out.
@@ -187,7 +187,7 @@ bounded-sends c j b n u = record {
   shares = length-take-le (j .booking .count) (j .booking .shares) (omega (arith, b .count));
   known = b .nodes;
   ends = b .ends;
-  returning = b .returning;
+  costs = b .costs;
 }
 
 -- A job's test ends at the first part that fails.

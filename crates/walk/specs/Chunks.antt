@@ -9,20 +9,21 @@ use lib.Seq.{drop-cons, getD-take}
 use Rattle.lists.specs.Laws.{All, all-front}
 use Rattle.limits.specs.declared.FarmCosts.{FarmCosts}
 use Rattle.shares.specs.Model.{finish}
+use Rattle.limits.specs.Model.{CostsWithin}
 use Rattle.booking.specs.Best.{chosen, units}
 use Rattle.walk.specs.declared.Job.{Job}
 use Rattle.walk.specs.declared.Chunk.{Chunk}
 use Rattle.walk.specs.Model.{greatest, ownCosts, chunkAt, chunksFrom, finishOf}
 
--- a job whose chunks can be worked out: a share for each node, nodes that there are, and a finish within the time range, so that no sum on
--- the way to it wraps (nor does p + r, where a share is 0)
+-- a job whose chunks can be worked out: a share for each node, nodes that there are, and costs within the table and a finish within the time range, so
+-- that no sum on the way to it wraps
 pub record Sends (c : FarmCosts) (j : Job) : Type 0 where
   pub few : j .booking .count ≤ 64
   pub nodes : length (chosen (j .booking)) ≡ j .booking .count
   pub shares : length (units (j .booking)) ≡ j .booking .count
   pub known : All (λ (k : ℕ). (1 ≤ k) × (k ≤ 64)) (chosen (j .booking))
   pub ends : finishOf c j ≤ greatest
-  pub returning : c .returning ≤ 10_000
+  pub costs : CostsWithin c
 
 -- the lines of a job from chunk i on, its send beginning at t
 abbrev pub linesFrom : FarmCosts → Job → ℕ → ℕ → List Chunk
@@ -62,9 +63,9 @@ module _ (c : FarmCosts) (j : Job) (s : Sends c j) (i t : ℕ) where
     pub ends-next : latestFrom c j i t ≤ greatest → (chunkAt c j i t .finish ≤ greatest) × (latestFrom c j (i + 1) (chunkAt c j i t .sent) ≤ greatest)
     ends-next e = let n = latest-next in (omega arith, omega arith)
 
-    pub chunk-adds : latestFrom c j i t ≤ greatest → (c .returning ≤ 10_000) × (chunkAt c j i t .finish < 18446744073709551616)
-    chunk-adds e = (s .returning, omega (arith, ends-next e .0))
+    pub chunk-adds : latestFrom c j i t ≤ greatest → CostsWithin c × (chunkAt c j i t .finish < 18446744073709551616)
+    chunk-adds e = (s .costs, omega (arith, ends-next e .0))
 
     -- It has a place in the job's arrays.
-    pub chunk-fits : latestFrom c j i t ≤ greatest → (i < 64) × (c .returning ≤ 10_000) × (chunkAt c j i t .finish < 18446744073709551616)
+    pub chunk-fits : latestFrom c j i t ≤ greatest → (i < 64) × CostsWithin c × (chunkAt c j i t .finish < 18446744073709551616)
     chunk-fits e = let k = chunk-adds e in (omega (arith, s .few), k .0, k .1)

@@ -1,6 +1,7 @@
 -- What a reader must believe is Model; the other files show what follows from it.
 pub mod Model
 pub mod Order
+pub mod Returning
 pub mod Chain
 pub mod OrderSteps
 pub mod Chunks

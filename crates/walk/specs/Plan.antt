@@ -9,6 +9,7 @@ use Rattle.lists.specs.Laws.{All, Pairs, Differ, all-map, all-both}
 use Rattle.shares.specs.declared.Costs.{Costs}
 use Rattle.shares.specs.Model.{sendEnd, chunkFinish}
 use Rattle.shares.specs.Lists.{Positive}
+use Rattle.limits.specs.Model.{CostsWithin}
 use Rattle.booking.specs.Best.{freeAt, chosen, units, Best}
 use Rattle.booking.specs.Booked.{some-share}
 use Rattle.walk.specs.declared.Job.{Job}
@@ -121,7 +122,7 @@ plan-length w b [] = refl
 plan-length w b (j ∷ js) = ap suc (plan-length w (busyAfter w b j) js)
 
 -- Every job of a plan that books all has chunks that can be worked out.
-pub plan-sends : (w : Terms) (b : Busy) (js : List Job) → w .nodes ≤ 64 → w .costs .returning ≤ 10_000 → length (b .free) ≡ 64 → All (λ (j : Job). j .deadline ≤ greatest) js → BestAll w b js → All (Sends (w .costs)) (plan w b js)
+pub plan-sends : (w : Terms) (b : Busy) (js : List Job) → w .nodes ≤ 64 → CostsWithin (w .costs) → length (b .free) ≡ 64 → All (λ (j : Job). j .deadline ≤ greatest) js → BestAll w b js → All (Sends (w .costs)) (plan w b js)
 unfolding plan
 plan-sends w b [] n z l r a = tt
 plan-sends w b (j ∷ js) n z l r a = (

@@ -11,6 +11,7 @@ use lib.Dec.{leb}
 use lib.Seq.{take-suc-set, drop-cons}
 use Rattle.lists.specs.Laws.{All, all-map}
 use Rattle.shares.specs.Model.{answers}
+use Rattle.limits.specs.Model.{CostsWithin}
 use Rattle.booking.specs.declared.Booking.{Booking}
 use Rattle.booking.specs.Model.{bookingOf, ranked}
 use Rattle.booking.specs.Best.{chosen, Best}
@@ -24,10 +25,10 @@ use Rattle.walk.specs.declared.Plan.{Plan}
 use Rattle.walk.specs.Model.{greatest, noJob, defaultCosts, byDeadline, requestOf, step, busyAfter, plan, booksAll}
 use Rattle.walk.specs.Chunks.{Sends}
 
--- what a walk starts from: costs and nodes for which the shares answer, a way back within its limit, free times in the time range, and jobs of at least one unit with a deadline in it
+-- what a walk starts from: costs and nodes for which the shares answer, costs within the table, free times in the time range, and jobs of at least one unit with a deadline in it
 pub record Ready (w : Terms) (b : Busy) (js : List Job) : Type 0 where
   pub answered : answers (defaultCosts (w .costs)) (w .nodes) ≡ true
-  pub returning : w .costs .returning ≤ 10_000
+  pub costs : CostsWithin (w .costs)
   pub free : All (λ (t : ℕ). t ≤ greatest) (take (w .nodes) (b .free))
   pub jobs : All (λ (j : Job). (1 ≤ j .size) × (j .deadline ≤ greatest)) js
 
@@ -46,7 +47,7 @@ step-best w b j e h z n =
     ⊎-elim (λ x. absurd (n (ap (λ (y : Booking). y .count) (x .0)))) (λ x. x) (book-is (requestOf w b j) (b .free) e h z)
 
 -- Its chunks can be worked out.
-pub best-sends : (w : Terms) (b : Busy) (j : Job) → w .nodes ≤ 64 → w .costs .returning ≤ 10_000 → w .nodes ≤ length (b .free) → j .deadline ≤ greatest → Best (requestOf w b j) (b .free) (step w b j .booking)
+pub best-sends : (w : Terms) (b : Busy) (j : Job) → w .nodes ≤ 64 → CostsWithin (w .costs) → w .nodes ≤ length (b .free) → j .deadline ≤ greatest → Best (requestOf w b j) (b .free) (step w b j .booking)
     → Sends (w .costs) (step w b j)
 unfolding bookingOf
 best-sends w b j f r h d x =
@@ -59,7 +60,7 @@ best-sends w b j f r h d x =
       shares = sym (k ∙ x .best .choice .paired);
       known = all-map (λ y a. (a .0, omega (arith, a .1))) (chosen q) (x .best .choice .known);
       ends = omega (arith, x .best .choice .ends);
-      returning = r;
+      costs = r;
     }
 
 -- Jobs in a row, of which the one at place i comes next.

@@ -64,7 +64,7 @@ chunk-on-requires c κs =
     let a = z .args in
     let l = c .before .before .before .before .before .before .loop in
     let w = c .before .before .before .wide32 .ensures in
-    (z .pre .costs .returning, finish-small (a .costs) (a .job .compute) (l .from) (getD (a .job .booking .shares) (l .i) 0) (z .pre .costs) (z .pre .compute) (l .inv .2) (omega (arith, w .0, w .1)))
+    (z .pre .costs, finish-small (a .costs) (a .job .compute) (l .from) (getD (a .job .booking .shares) (l .i) 0) (z .pre .costs) (z .pre .compute) (l .inv .2) (omega (arith, w .0, w .1)))
 
 returns-2 : tie.Need-returns-2 Inv-loop μ-loop
 returns-2 c =

@@ -1,0 +1,67 @@
+-- The way back, document 02 (iii): what r is to a chunk; that nothing has changed where r is 0; and that a walk with r is the walk without it of jobs whose
+-- units take r ticks longer to compute.
+use mathlib.Core.Path.{_≡_, refl}
+use mathlib.Core.List.{List, [], _∷_, map}
+use Prim.Native.Nat.{ℕ, _+_, _*_}
+use native.Mathlib.Omega.{arith}
+use native.Mathlib.Nat.{mul-add}
+use Rattle.limits.specs.declared.FarmCosts.{FarmCosts}
+use Rattle.shares.specs.Model.{sendEnd, chunkFinish}
+use Rattle.walk.specs.declared.Job.{Job}
+use Rattle.walk.specs.declared.Terms.{Terms}
+use Rattle.walk.specs.declared.Busy.{Busy}
+use Rattle.walk.specs.Model.{costsFor, busyAfter, plan, booksAll}
+
+-- ---- A chunk
+
+-- the farm's costs without the way back
+abbrev pub withoutReturn : FarmCosts → FarmCosts
+withoutReturn c = record { send = c .send; compute = c .compute; linksetup = c .linksetup; nodesetup = c .nodesetup; returning = 0 }
+
+module _ (c : FarmCosts) (p t a : ℕ) where
+  -- The send takes ST + units × m: nothing comes back on the link.
+  pub send-is : sendEnd (costsFor c p) t a ≡ t + (c .linksetup + a * c .send)
+  send-is = refl
+
+  -- The time after the send is SC + units × (p + r).
+  pub rest-is : chunkFinish (costsFor c p) t a ≡ sendEnd (costsFor c p) t a + (c .nodesetup + a * (p + c .returning))
+  rest-is = refl
+
+  -- The way back comes last: the chunk is computed as if there were none, and is back units × r ticks later.
+  pub back-last : chunkFinish (costsFor c p) t a ≡ chunkFinish (costsFor (withoutReturn c) p) t a + a * c .returning
+  back-last = omega (arith, mul-add a p (c .returning))
+
+  -- Where r is 0, the time after the send is SC + units × p, as before.
+  pub none-back : c .returning ≡ 0 → chunkFinish (costsFor c p) t a ≡ sendEnd (costsFor c p) t a + (c .nodesetup + a * p)
+  none-back e = let q : p + c .returning ≡ p = omega arith in rw q
+
+-- Where r is 0, a job's costs are the farm's with its compute cost, and so all that is worked out from them is what it was.
+pub none-returned : (c : FarmCosts) (p : ℕ) → c .returning ≡ 0 → costsFor c p ≡ record { send = c .send; compute = p; linksetup = c .linksetup; nodesetup = c .nodesetup }
+none-returned c p e = let q : p + c .returning ≡ p = omega arith in rw q
+
+-- ---- A walk
+
+-- a job whose units take r ticks longer to compute
+abbrev pub dearer : ℕ → Job → Job
+dearer r j = record { number = j .number; show = j .show; size = j .size; compute = j .compute + r; deadline = j .deadline; booking = j .booking }
+
+-- what a walk knows, without the way back
+abbrev pub termsWithout : Terms → Terms
+termsWithout w = record { costs = withoutReturn (w .costs); nodes = w .nodes; clock = w .clock }
+
+-- For the share arithmetic p + r is a larger p.
+pub as-dearer : (c : FarmCosts) (p : ℕ) → costsFor (withoutReturn c) (p + c .returning) ≡ costsFor c p
+as-dearer c p = let q : p + c .returning + 0 ≡ p + c .returning = omega arith in rw q
+
+-- **A larger p.** A walk plans its jobs as the walk without a way back plans them where each unit takes r ticks longer to compute: the same starts, nodes and
+-- shares, and so the same free times.
+pub plan-dearer : (w : Terms) (b : Busy) (js : List Job) → plan (termsWithout w) b (map (dearer (w .costs .returning)) js) ≡ map (dearer (w .costs .returning)) (plan w b js)
+unfolding plan
+plan-dearer w b [] = refl
+plan-dearer w b (j ∷ js) = rw (as-dearer (w .costs) (j .compute), plan-dearer w (busyAfter w b j) js)
+
+-- So it books them all exactly where that walk does.
+pub books-dearer : (w : Terms) (b : Busy) (js : List Job) → booksAll (termsWithout w) b (map (dearer (w .costs .returning)) js) ≡ booksAll w b js
+unfolding booksAll
+books-dearer w b [] = refl
+books-dearer w b (j ∷ js) = rw (as-dearer (w .costs) (j .compute), books-dearer w (busyAfter w b j) js)
