@@ -116,6 +116,33 @@ fn own_compute_costs_have_the_farms_way_back() {
     );
 }
 
+/// Only because of the way back an old job fails in the walk behind a withdrawal.
+/// A unit takes 3 ticks of a window and leaves 1 less for the next node.
+///
+/// Job 1 takes node 1 until 3. Job 2, 4 units by 12, has 11 ticks on node 2 alone,
+/// which hold 3, so it takes both from 3: 8 ticks hold 2 + 2, and the nodes are free
+/// at 9 and 11. Job 3, 7 units by 24, takes both from 11: 13 ticks hold 4 + 3.
+///
+/// Without job 1 a walk books job 2 on node 1 from 0 to 12. Job 3 then has node 2
+/// from 4, where 20 ticks hold 6, or both from 12, where 12 ticks hold 4 + 2.
+#[test]
+fn an_old_job_fails_because_of_the_way_back() {
+    let lines = "job 1 1 3\njob 1 4 12\njob 1 7 24\nwithdraw 1\njob 1 1 1000\nclock 11\n";
+    check(
+        &format!("farm 2 1 1 0 0 1 0\n{lines}account 1\n"),
+        "open 2 1\nyes 1 0 3 1\nyes 2 3 11 2\nyes 3 11 24 2\ngone 1\nno 8\n\
+         chunk 2 1 2 2 3 5 9\nchunk 2 1 1 2 5 7 11\n\
+         chunk 3 1 2 4 11 15 23\nchunk 3 1 1 3 15 18 24\nclock 11 4\n\
+         account 1 39 39\n",
+    );
+    // With r = 0 each job takes one node, and the offer is taken.
+    check(
+        &format!("farm 2 1 1 0 0 0 0\n{lines}"),
+        "open 2 1\nyes 1 0 2 1\nyes 2 1 9 1\nyes 3 5 19 1\ngone 1\nyes 4 11 13 1\n\
+         chunk 2 1 1 4 0 4 8\nchunk 3 1 2 7 4 11 18\nchunk 4 1 1 1 11 12 13\nclock 11 3\n",
+    );
+}
+
 /// The limits of p are for p alone, of the farm and of a job.
 #[test]
 fn p_has_its_limits_without_r() {

@@ -107,7 +107,12 @@ impl Programs<'_> {
             return Ok(day.bytes.clone());
         };
         let mut command = Turn::new(program, day).command()?;
-        Ok(output(command.args(arguments))?.stdout)
+        let filtered = output(command.args(arguments))?;
+        if !filtered.status.success() {
+            let error = format!("{} does not end well", program.display());
+            return Err(io::Error::other(error));
+        }
+        Ok(filtered.stdout)
     }
 }
 
