@@ -8,6 +8,9 @@
 --   "They add up to its size, end by its deadline,"                                   each (`Fulfils` in CallLists.antt)
 --   document 02 (i): "Deadlines are kept for mixed jobs as they were for equal ones." each, due (`Accepted` has the compute cost, and `Fulfils` says that
 --                                                                                     sends and finishes are what the costs with it make them)
+--   document 02 (iii): "A chunk finishes when its audio is back, so the time after its send is SC + units × (p + r). Node free times and held ticks use
+--    that finish."                                                                    each (`finish` of `Fulfils`; `rest-is` in walk/specs/Returning.antt),
+--                                                                                     free, held
 --   "and have been issued once the clock has reached that deadline."                  due
 --   "No later call alters an issued chunk."                                           unaltered
 --   "No two chunks, issued or booked, are on one node, and no two of their sends on the link, in the same tick."   apart
