@@ -14,6 +14,7 @@ use Rattle.planner.specs.declared.Farm.{Farm}
 use Rattle.planner.specs.Model.{spansOfAll, waitingOf, busyOf, JobSized, Sized, Apart}
 use Rattle.planner.specs.Passes.{countsWithin, timesWithin, figuresOf, passesOf, JobWithin, JobSound, Within, Passes}
 use Rattle.planner.specs.PassesSteps.{farmWithin, usable, says-within}
+use Rattle.planner.specs.Calls.{withWaiting}
 use Rattle.demands.specs.BegunJobs.{spans-append}
 
 -- The test of the farm itself says that it is opened and that its figures are within their limits.
@@ -31,28 +32,6 @@ pub passes-iff : (f : Farm) → Sized f → (passesOf f ≡ true) ↔ Passes f
 passes-iff f z = let s = says-passes f z in (s .yields, s .follows)
 
 -- ---- Fewer jobs, in any order
-
--- the farm with n waiting jobs, of this array
-abbrev pub withWaiting : Farm → ℕ → List Job → Farm
-withWaiting f n js =
-    record {
-      opened = f .opened;
-      nodes = f .nodes;
-      costs = f .costs;
-      shows = f .shows;
-      allowances = f .allowances;
-      held = f .held;
-      clock = f .clock;
-      link = f .link;
-      free = f .free;
-      used = f .used;
-      waiting = n;
-      jobs = js;
-    }
-
--- the farm with other waiting jobs
-abbrev pub withJobs : Farm → List Job → Farm
-withJobs f js = withWaiting f (f .waiting) js
 
 -- A farm that passes also passes where some of its waiting jobs are gone, and the others stand in any order.
 pub fewer-pass : (f : Farm) (n : ℕ) (gone js : List Job) → n ≤ 128 → List·Permᴰ (waitingOf f) (gone ++ take n js) → Passes f → Passes (withWaiting f n js)
@@ -85,7 +64,7 @@ fewer-pass f n gone js few d p =
     }
 
 -- A farm that passes also passes with its waiting jobs in any other order.
-pub any-order : (f g : Farm) → withJobs f (g .jobs) ≡ g → List·Permᴰ (waitingOf f) (waitingOf g) → Passes f → Passes g
+pub any-order : (f g : Farm) → withWaiting f (f .waiting) (g .jobs) ≡ g → List·Permᴰ (waitingOf f) (waitingOf g) → Passes f → Passes g
 any-order f g e d p =
     let n : g .waiting ≡ f .waiting = ap (λ (h : Farm). h .waiting) (sym e) in
     subst Passes e (fewer-pass f (f .waiting) [] (g .jobs) (p .within .waiting) (subst (λ (k : ℕ). List·Permᴰ (waitingOf f) (take k (g .jobs))) n d) p)

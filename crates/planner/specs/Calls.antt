@@ -230,9 +230,9 @@ offerFarm f o = cond (eqb (offerAsked f o) 0) (cond (accepts f o) (withPlan f (p
 
 -- ---- Withdrawal
 
--- the farm with one job less, and these jobs
-abbrev pub fewerFarm : Farm → List Job → Farm
-fewerFarm f js = record {
+-- the farm with n waiting jobs, of this array
+abbrev pub withWaiting : Farm → ℕ → List Job → Farm
+withWaiting f n js = record {
   opened = f .opened;
   nodes = f .nodes;
   costs = f .costs;
@@ -243,9 +243,13 @@ fewerFarm f js = record {
   link = f .link;
   free = f .free;
   used = f .used;
-  waiting = f .waiting - 1;
+  waiting = n;
   jobs = js;
 }
+
+-- the farm with one job less, and these jobs
+abbrev pub fewerFarm : Farm → List Job → Farm
+fewerFarm f js = withWaiting f (f .waiting - 1) js
 
 -- the farm without job n: the other waiting jobs as they are, in the order that they have, and nothing walked. The cells behind them hold what they held.
 abbrev pub withdrawnFarm : Farm → ℕ → Farm

@@ -193,39 +193,6 @@ module _ (f : Farm) (t : ℕ) (d : Due) (sized : Sized f) (x : Begins f t d) whe
   pub begins-count : length (issued f t) ≡ d .lines
   begins-count = all-lines (f .costs) (begun f t) (can-begin-sends f (begun f t) (begun-can-begin f sized (x .passes) t)) ∙ sym (x .due .lines)
 
--- the farm with other jobs, and with another count of them
-abbrev pub jobsAs : Farm → List Job → Farm
-jobsAs f js = record {
-  opened = f .opened;
-  nodes = f .nodes;
-  costs = f .costs;
-  shows = f .shows;
-  allowances = f .allowances;
-  held = f .held;
-  clock = f .clock;
-  link = f .link;
-  free = f .free;
-  used = f .used;
-  waiting = f .waiting;
-  jobs = js;
-}
-
-abbrev pub waitingAs : Farm → ℕ → Farm
-waitingAs f k = record {
-  opened = f .opened;
-  nodes = f .nodes;
-  costs = f .costs;
-  shows = f .shows;
-  allowances = f .allowances;
-  held = f .held;
-  clock = f .clock;
-  link = f .link;
-  free = f .free;
-  used = f .used;
-  waiting = k;
-  jobs = f .jobs;
-}
-
 -- The farm with what its parts come to is the moved farm.
 pub moved-is : (f : Farm) (t : ℕ) (ls : List Job) (b : Busy) (hs : List ℕ) (k : ℕ) (js : List Job) → ls ≡ begun f t
     → b ≡ afters (busyOf f) (linesOfAll (f .costs) ls)

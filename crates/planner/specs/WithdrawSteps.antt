@@ -18,7 +18,7 @@ use Rattle.planner.specs.Passes.{passesOf}
 use Rattle.planner.specs.Calls.{hasNumber, without, said, Replies, fewerFarm, withdrawSaid, withdrawFarm}
 
 -- what a withdrawal from a farm that passes comes to
-pub record Withdraws (f : Farm) (n : ℕ) (r : Decision) : Type 0 where
+pub record DecidesWithdraw (f : Farm) (n : ℕ) (r : Decision) : Type 0 where
   pub says : said (r .answer) ≡ withdrawSaid f n
   -- granted: one job less waits, and it is these
   pub grants : r .granted ≡ true → (withdrawFarm f n ≡ fewerFarm f (r .jobs)) × (1 ≤ f .waiting)
@@ -33,14 +33,14 @@ module _ (f : Farm) (n place : ℕ) (e : passesOf f ≡ true) (size : f .waiting
   withdraw-place = omega (arith, place-within n (waitingOf f), count)
 
   -- At their end the number is none of theirs.
-  pub withdraws-none : (js : List Job) → place ≡ f .waiting → Withdraws f n (record { granted = false; answer = answer.No question.Waiting; jobs = js })
+  pub withdraws-none : (js : List Job) → place ≡ f .waiting → DecidesWithdraw f n (record { granted = false; answer = answer.No question.Waiting; jobs = js })
   unfolding withdrawSaid withdrawFarm
   withdraws-none js h =
       let none : hasNumber n (waitingOf f) ≡ false = place-none n (waitingOf f) (sym at ∙ h ∙ sym count) in
       record { says = rw (e, none); grants = λ k. absurd (false≢true k); refuses = λ k. rw (e, none) }
 
   -- Among them it is that of the job there, and the others move up.
-  pub withdraws-one : (js : List Job) → place < f .waiting → js ≡ closedUp (f .jobs) (f .waiting) place → Withdraws f n (record { granted = true; answer = answer.Gone n; jobs = js })
+  pub withdraws-one : (js : List Job) → place < f .waiting → js ≡ closedUp (f .jobs) (f .waiting) place → DecidesWithdraw f n (record { granted = true; answer = answer.Gone n; jobs = js })
   unfolding withdrawSaid withdrawFarm
   withdraws-one js h q =
       let within : placeOf n (waitingOf f) < length (waitingOf f) = omega (arith, at, count) in

@@ -3,7 +3,7 @@ ghost use mathlib.Core.Bool.{true};
 ghost use mathlib.Core.Path.{_≡_};
 ghost use Rattle.planner.specs.Passes.{passesOf};
 ghost use Rattle.planner.specs.Calls.{Replies, withdrawSaid, withdrawFarm};
-ghost use Rattle.planner.specs.WithdrawSteps.{Withdraws};
+ghost use Rattle.planner.specs.WithdrawSteps.{DecidesWithdraw};
 use crate::Answer;
 use crate::Decision;
 use crate::Farm;
@@ -36,7 +36,7 @@ impl Farm {
     // The same of a farm that passes question 11: what it is told and, where the number waits, the jobs that wait then. The caller keeps the farm.
     pub fn withdraw_unchecked(self, number: u64) -> Decision
         requires { ⌜ passesOf self ≡ true ⌝ }
-        ensures { λ r. ⌜ Withdraws self number r ⌝ }
+        ensures { λ r. ⌜ DecidesWithdraw self number r ⌝ }
     {
         let jobs = self.jobs;
         let waiting = self.waiting;
