@@ -82,7 +82,8 @@ pub record DayDemand3 (before : List (List ℕ)) (l : List ℕ) (after : List (L
   pub text : answers unopened (before ++ l ∷ after) ≡ printTexts (prints unopened (before ++ l ∷ after))
   -- The farm after them is the farm that the calls leave.
   pub farm : farmAfter unopened (before ++ l ∷ after) ≡ run (opening (farmOn l)) (callsIn after) .farm
-  -- The farm's costs are those on the `farm` line, wherever the others end: its p is the compute cost of a `job` line that gives none.
+  -- The farm's costs are those on the `farm` line, wherever the others end: its p is the compute cost of a `job` line that gives none, and its r is in
+  -- the finish of every chunk.
   pub costs : (part rest : List (List ℕ)) → after ≡ part ++ rest → farmAfter unopened (before ++ l ∷ part) .costs ≡ costsIn (numbersOf l)
   -- The `chunk` lines printed are the chunks that the calls issue, in order.
   pub chunks : chunksIn (prints unopened (before ++ l ∷ after)) ≡ map chunkOf (run (opening (farmOn l)) (callsIn after) .lines)

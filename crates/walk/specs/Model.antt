@@ -36,8 +36,8 @@ noJob = record { number = 0; show = 0; size = 0; compute = 0; deadline = 0; book
 abbrev pub noChunk : Chunk
 noChunk = record { job = 0; show = 0; node = 0; units = 0; start = 0; sent = 0; finish = 0 }
 
--- the costs of a job whose units take p ticks to compute, for the share arithmetic: the farm's, and a unit is done when its audio is back, r ticks
--- after it is computed. A node computes and returns on lines of its own, so r is a part of what follows the send
+-- the costs of a job whose units take p ticks to compute, as the share arithmetic takes them: a chunk has finished when its audio is back, so what
+-- follows the send takes p + r a unit. Nothing of it is on the link
 abbrev pub costsFor : FarmCosts → ℕ → Costs
 costsFor c p = record { send = c .send; compute = p + c .returning; linksetup = c .linksetup; nodesetup = c .nodesetup }
 
