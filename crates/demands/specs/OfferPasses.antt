@@ -158,7 +158,7 @@ best-planned f b j n r l h x =
     let w = termsOf f in
     let q = step w b j .booking in
     let k = x .best .choice in
-    let s = best-sends w b j n r (omega arith) (h .deadline) x in
+    let s = best-sends w b j n r (omega arith) (h .deadline) (h .compute .1) x in
     let some : 1 ≤ length (units q) = some-share (units q) (omega (arith, k .all, h .size .0)) in
     let by : q .start ≤ j .deadline = finish-latest (ownCosts (f .costs) j) (q .start) (j .deadline) (units q) .0 (k .ends) .0 in
     record {

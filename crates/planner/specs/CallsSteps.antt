@@ -15,7 +15,7 @@ use Rattle.shares.specs.Answers.{answered}
 use Rattle.limits.specs.Tests.{and-both}
 use Rattle.walk.specs.declared.Job.{Job}
 use Rattle.walk.specs.Order.{by-deadline-perm}
-use Rattle.walk.specs.WalkSteps.{Ready}
+use Rattle.walk.specs.WalkSteps.{Walkable, Ready}
 use Rattle.planner.specs.declared.Farm.{Farm}
 use Rattle.planner.specs.declared.Offer.{Offer}
 use Rattle.planner.specs.declared.Reply.{Reply}
@@ -159,10 +159,11 @@ pub record Offered (f : Farm) (j : Job) : Type 0 where
   pub passes : passesOf f ≡ true
   pub size : 1 ≤ j .size
   pub deadline : j .deadline ≤ greatest
+  pub compute : j .compute ≤ 1_000_000
   pub waiting : f .waiting < 128
 
 -- On a farm that passes, the walk has costs and nodes that the shares answer for, free times in the range, and jobs of at least a unit with
--- deadlines in the range.
+-- deadlines in the range and compute costs within their limit.
 pub offer-ready : (f : Farm) (j : Job) → Offered f j → Ready (termsOf f) (busyOf f) (waitingOf f ++ j ∷ [])
 offer-ready f j o =
     let g = passes-within f (o .passes) in
@@ -170,8 +171,8 @@ offer-ready f j o =
       answered = answered (defaultCosts (f .costs)) (f .nodes) (g .costs .send .0) (g .nodes .1);
       costs = g .costs;
       free = g .free;
-      jobs = all-join (λ (x : Job). (1 ≤ x .size) × (x .deadline ≤ greatest)) (waitingOf f) (j ∷ [])
-          (all-map (λ x a. (a .0 .size .0, a .0 .deadline)) (waitingOf f) (passes-jobs f (o .passes))) ((o .size, o .deadline), tt);
+      jobs = all-join Walkable (waitingOf f) (j ∷ [])
+          (all-map (λ x a. (a .0 .size .0, a .0 .deadline, a .0 .compute .1)) (waitingOf f) (passes-jobs f (o .passes))) ((o .size, o .deadline, o .compute), tt);
     }
 
 pub walk-ready : (f : Farm) (j : Job) → Offered f j → Ready (termsOf f) (busyOf f) (byDeadline (waitingOf f ++ j ∷ []))
@@ -181,5 +182,5 @@ walk-ready f j o =
       answered = r .answered;
       costs = r .costs;
       free = r .free;
-      jobs = perm-all (λ (x : Job). (1 ≤ x .size) × (x .deadline ≤ greatest)) (by-deadline-perm (waitingOf f ++ j ∷ [])) (r .jobs);
+      jobs = perm-all Walkable (by-deadline-perm (waitingOf f ++ j ∷ [])) (r .jobs);
     }

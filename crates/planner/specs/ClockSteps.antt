@@ -114,6 +114,7 @@ waiting-sends f j n r z w k = record {
   known = all-map (λ k b. (b .0, omega (arith, b .1))) (chosen (j .booking)) (w .nodes);
   ends = omega (arith, k .ends, w .deadline);
   costs = r;
+  compute = w .compute .1;
 }
 
 -- what the jobs of a list bring where they begin: chunks that can be worked out, shows with a cell, cells with room

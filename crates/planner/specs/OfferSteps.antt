@@ -64,7 +64,7 @@ offer-granted f o h =
 
 -- The new job may be walked.
 pub offer-offered : (f : Farm) (o : Offer) → OfferGranted f o → Offered f (newJob f o)
-offer-offered f o g = record { passes = g .passes; size = g .size .0; deadline = g .deadline .1; waiting = g .place .0 }
+offer-offered f o g = record { passes = g .passes; size = g .size .0; deadline = g .deadline .1; compute = g .compute .1; waiting = g .place .0 }
 
 -- A job with the compute cost that was worked out is the new job.
 pub new-job-is : (f : Farm) (o : Offer) (p : ℕ) (j : Job) → j ≡ record { number = f .used + 1; show = o .show; size = o .size; compute = p; deadline = o .deadline; booking = bookingOf 0 [] [] } → p ≡ computeOf f o → j ≡ newJob f o
@@ -136,7 +136,7 @@ module _ (f : Farm) (j : Job) (o : Offered f j) (new : j .number ≡ f .used + 1
         let ready = walk-ready f j o in
         let best = walk-best (termsOf f) (busyOf f) queue ready (omega (arith, g .nodes .1)) (sym (w .books) ∙ ok) in
         subst (Sends (f .costs)) (sym at-place)
-        (all-nth noJob (Sends (f .costs)) (plan (termsOf f) (busyOf f) queue) (r .place) (plan-sends (termsOf f) (busyOf f) queue (g .nodes .1) (g .costs) sized (all-map (λ x a. a .1) queue (ready .jobs)) best) (omega (arith, long, w .place ok .0)))
+        (all-nth noJob (Sends (f .costs)) (plan (termsOf f) (busyOf f) queue) (r .place) (plan-sends (termsOf f) (busyOf f) queue (g .nodes .1) (g .costs) sized (ready .jobs) best) (omega (arith, long, w .place ok .0)))
 
 -- what question 8 comes to for a new job
 pub record Planned (f : Farm) (j : Job) (r : Decision) : Type 0 where

@@ -1,11 +1,10 @@
 -- What the functions promise each other: what each turn of the loops keeps, and that no sum wraps.
-use Prim.Native.Nat.{ℕ, suc, max, _+_, _*_, _-_, _≤_, _<_}
+use Prim.Native.Nat.{ℕ, suc, max, _+_, _-_, _≤_, _<_}
 use mathlib.Core.Path.{_≡_, refl, ap, _∙_}
 use mathlib.Core.List.{List, [], _∷_, _++_}
 use mathlib.Core.Bool.{Bool, true, false, _&&_, not, and-false}
 use native.Mathlib.Numerals.{add-one}
 use native.Mathlib.Omega.{arith}
-use native.Mathlib.Nat.{mul-le-mul-left}
 use borrow.Author.Tests.{leb-true, leb-false, le-leb, lt-leb, eq-eqb, ne-eqb}
 use lib.Dec.{leb, eqb}
 use lib.ListN.{length, getD, take, drop, set, length-drop}
@@ -21,7 +20,7 @@ use Rattle.booking.specs.Best.{freeAt, chosen, units}
 use Rattle.walk.specs.declared.Job.{Job}
 use Rattle.walk.specs.declared.Busy.{Busy}
 use Rattle.walk.specs.declared.Chunk.{Chunk}
-use Rattle.walk.specs.Model.{greatest, noJob, costsFor, ownCosts, finishOf, chunkAt, Span, placed, spansOf, spansOfAll, after, byStart, inOrder, fitAll}
+use Rattle.walk.specs.Model.{greatest, noJob, ownCosts, finishOf, chunkAt, Span, placed, spansOf, spansOfAll, after, byStart, inOrder, fitAll}
 use Rattle.walk.specs.Chunks.{Sends, linesFrom, lines-next, lines-none}
 use Rattle.soundness.specs.declared.Figures.{Figures}
 use Rattle.soundness.specs.declared.Fit.{Fit}
@@ -39,12 +38,13 @@ pub record NoOverflow (c : FarmCosts) (j : Job) : Type 0 where
   pub deadline : j .deadline ≤ greatest
   pub count : j .booking .count ≤ 64
 
--- a job that passes by itself: its nodes have free times, no finish is past the time range, and the costs are within the table
+-- a job that passes by itself: its nodes have free times, no finish is past the time range, and the costs are within their limits
 pub record Bounded (c : FarmCosts) (j : Job) : Type 0 where
   pub count : j .booking .count ≤ 64
   pub nodes : All (λ (k : ℕ). (1 ≤ k) × (k ≤ 64)) (chosen (j .booking))
   pub ends : finishOf c j ≤ greatest
   pub costs : CostsWithin c
+  pub compute : j .compute ≤ 1_000_000
 
 -- what a survey of the first n jobs comes to
 pub record Surveys (g : Figures) (js : List Job) (n : ℕ) (r : Survey) : Type 0 where
@@ -58,19 +58,6 @@ Inside n k = k .place < n
 -- r says of a job's chunks behind b whether they fit, and what they leave to all that follow
 pub record FitResult (c : FarmCosts) (b : Busy) (j : Job) (r : Fit) : Type 0 where
   pub rest : (xs : List Span) → fitAll b (spansOf c j ++ xs) ≡ r .fits && fitAll (r .busy) xs
-
--- ---- Sums
-
--- 2^32 - 1 units at 1,010,000 ticks each, the most that a unit is computed and brought back in
-product-small : (u e : ℕ) → u < 4294967296 → e ≤ 1010000 → u * e ≤ 4337916967950000
-product-small u e h k =
-    let p : u * e ≤ u * 1010000 = mul-le-mul-left u k in
-    omega arith
-
--- The finish of a chunk of fewer than 2^32 units that is sent within the time range does not wrap.
-pub finish-small : (c : FarmCosts) (p t a : ℕ) → CostsWithin c → p ≤ 1_000_000 → t ≤ greatest → a < 4294967296 → chunkFinish (costsFor c p) t a < 18446744073709551616
-finish-small c p t a w l h k =
-    omega (arith, product-small a (c .send) k (omega (arith, w .send .1)), product-small a (p + c .returning) k (omega (arith, w .returning)), w .linksetup, w .nodesetup)
 
 -- ---- The nodes of a booking
 
@@ -177,6 +164,7 @@ all-bounded g js u e =
       nodes = all-map (λ k b. (b .0, omega (arith, b .1, u .nodes))) (chosen (j .booking)) (h .0 .nodes);
       ends = omega (arith, h .1 .ends, h .0 .deadline);
       costs = u .costs;
+      compute = h .0 .compute .1;
     }) js (says-jobs g js .yields e)
 
 -- Their chunks can be worked out.
@@ -188,6 +176,7 @@ bounded-sends c j b n u = record {
   known = b .nodes;
   ends = b .ends;
   costs = b .costs;
+  compute = b .compute;
 }
 
 -- A job's test ends at the first part that fails.

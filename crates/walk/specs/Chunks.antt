@@ -1,22 +1,38 @@
 -- A job's chunks, one by one: when they can be worked out, and what the loops over them need of each.
 use mathlib.Core.Path.{_≡_}
 use mathlib.Core.List.{List, [], _∷_}
-use Prim.Native.Nat.{ℕ, _+_, _≤_, _<_, max}
+use Prim.Native.Nat.{ℕ, _+_, _*_, _≤_, _<_, max}
+use native.Mathlib.Nat.{mul-le-mul-left}
 use native.Mathlib.Numerals.{add-one}
 use native.Mathlib.Omega.{arith}
 use lib.ListN.{length, drop, length-take, drop-of-length-le}
 use lib.Seq.{drop-cons, getD-take}
 use Rattle.lists.specs.Laws.{All, all-front}
 use Rattle.limits.specs.declared.FarmCosts.{FarmCosts}
-use Rattle.shares.specs.Model.{finish}
+use Rattle.shares.specs.Model.{chunkFinish, finish}
+use Rattle.shares.specs.Chunks.{finish-latest}
 use Rattle.limits.specs.Model.{CostsWithin}
 use Rattle.booking.specs.Best.{chosen, units}
 use Rattle.walk.specs.declared.Job.{Job}
 use Rattle.walk.specs.declared.Chunk.{Chunk}
-use Rattle.walk.specs.Model.{greatest, ownCosts, chunkAt, chunksFrom, finishOf}
+use Rattle.walk.specs.Model.{greatest, costsFor, ownCosts, chunkAt, chunksFrom, finishOf}
 
--- a job whose chunks can be worked out: a share for each node, nodes that there are, and costs within the table and a finish within the time range, so
--- that no sum on the way to it wraps
+-- ---- Sums
+
+-- 2^32 - 1 units at 1,010,000 ticks each, the most that a unit is computed and brought back in
+product-small : (u e : ℕ) → u < 4294967296 → e ≤ 1010000 → u * e ≤ 4337916967950000
+product-small u e h k =
+    let p : u * e ≤ u * 1010000 = mul-le-mul-left u k in
+    omega arith
+
+-- The finish of a chunk of fewer than 2^32 units that is sent within the time range does not wrap.
+pub finish-small : (c : FarmCosts) (p t a : ℕ) → CostsWithin c → p ≤ 1_000_000 → t ≤ greatest → a < 4294967296 → chunkFinish (costsFor c p) t a < 18446744073709551616
+finish-small c p t a w l h k =
+    omega (arith, product-small a (c .send) k (omega (arith, w .send .1)), product-small a (p + c .returning) k (omega (arith, w .returning)), w .linksetup, w .nodesetup)
+
+-- ---- A job's chunks
+
+-- a job whose chunks can be worked out: a share for each node, nodes that there are, costs within their limits, and a finish within the time range
 pub record Sends (c : FarmCosts) (j : Job) : Type 0 where
   pub few : j .booking .count ≤ 64
   pub nodes : length (chosen (j .booking)) ≡ j .booking .count
@@ -24,6 +40,7 @@ pub record Sends (c : FarmCosts) (j : Job) : Type 0 where
   pub known : All (λ (k : ℕ). (1 ≤ k) × (k ≤ 64)) (chosen (j .booking))
   pub ends : finishOf c j ≤ greatest
   pub costs : CostsWithin c
+  pub compute : j .compute ≤ 1_000_000
 
 -- the lines of a job from chunk i on, its send beginning at t
 abbrev pub linesFrom : FarmCosts → Job → ℕ → ℕ → List Chunk
@@ -59,13 +76,13 @@ module _ (c : FarmCosts) (j : Job) (s : Sends c j) (i t : ℕ) where
     unfolding finish
     latest-next = rw (drop-cons (units (j .booking)) i 0 (omega (arith, s .shares)), add-one i, getD-take (j .booking .count) (j .booking .shares) i 0 h)
 
-    -- Where they finish within the time range, so does it, and its sums do not wrap.
+    -- Where they finish within the time range, so does it, and its send begins within it.
     pub ends-next : latestFrom c j i t ≤ greatest → (chunkAt c j i t .finish ≤ greatest) × (latestFrom c j (i + 1) (chunkAt c j i t .sent) ≤ greatest)
     ends-next e = let n = latest-next in (omega arith, omega arith)
 
-    pub chunk-adds : latestFrom c j i t ≤ greatest → CostsWithin c × (chunkAt c j i t .finish < 18446744073709551616)
-    chunk-adds e = (s .costs, omega (arith, ends-next e .0))
+    pub begins-within : latestFrom c j i t ≤ greatest → t ≤ greatest
+    begins-within e = finish-latest (ownCosts c j) t greatest (drop i (units (j .booking))) .0 e .0
 
-    -- It has a place in the job's arrays.
-    pub chunk-fits : latestFrom c j i t ≤ greatest → (i < 64) × CostsWithin c × (chunkAt c j i t .finish < 18446744073709551616)
-    chunk-fits e = let k = chunk-adds e in (omega (arith, s .few), k .0, k .1)
+    -- It can be worked out.
+    pub chunk-fits : latestFrom c j i t ≤ greatest → (i < 64) × CostsWithin c × (j .compute ≤ 1_000_000) × (t ≤ greatest)
+    chunk-fits e = (omega (arith, s .few), s .costs, s .compute, begins-within e)

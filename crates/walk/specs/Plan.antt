@@ -15,10 +15,10 @@ use Rattle.booking.specs.Booked.{some-share}
 use Rattle.walk.specs.declared.Job.{Job}
 use Rattle.walk.specs.declared.Terms.{Terms}
 use Rattle.walk.specs.declared.Busy.{Busy}
-use Rattle.walk.specs.Model.{greatest, ownCosts, chunkOn, chunksFrom, linesOf, spansFrom, spansOf, spansOfAll, after, afters, requestOf, step, busyAfter, plan}
+use Rattle.walk.specs.Model.{ownCosts, chunkOn, chunksFrom, linesOf, spansFrom, spansOf, spansOfAll, after, afters, requestOf, step, busyAfter, plan}
 use Rattle.walk.specs.Chain.{Chain, chain-job, free-other, afters-length}
 use Rattle.walk.specs.Chunks.{Sends}
-use Rattle.walk.specs.WalkSteps.{best-sends}
+use Rattle.walk.specs.WalkSteps.{Walkable, best-sends}
 use Rattle.walk.specs.BestWalk.{BestAll}
 
 -- ---- The plan in walk order
@@ -122,10 +122,10 @@ plan-length w b [] = refl
 plan-length w b (j ∷ js) = ap suc (plan-length w (busyAfter w b j) js)
 
 -- Every job of a plan that books all has chunks that can be worked out.
-pub plan-sends : (w : Terms) (b : Busy) (js : List Job) → w .nodes ≤ 64 → CostsWithin (w .costs) → length (b .free) ≡ 64 → All (λ (j : Job). j .deadline ≤ greatest) js → BestAll w b js → All (Sends (w .costs)) (plan w b js)
+pub plan-sends : (w : Terms) (b : Busy) (js : List Job) → w .nodes ≤ 64 → CostsWithin (w .costs) → length (b .free) ≡ 64 → All Walkable js → BestAll w b js → All (Sends (w .costs)) (plan w b js)
 unfolding plan
 plan-sends w b [] n z l r a = tt
 plan-sends w b (j ∷ js) n z l r a = (
-  best-sends w b j n z (omega arith) (r .0) (a .0),
+  best-sends w b j n z (omega arith) (r .0 .1) (r .0 .2) (a .0),
   plan-sends w (busyAfter w b j) js n z (afters-length b (linesOf (w .costs) (step w b j)) ∙ l) (r .1) (a .1),
 )

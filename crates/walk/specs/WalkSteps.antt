@@ -25,12 +25,16 @@ use Rattle.walk.specs.declared.Plan.{Plan}
 use Rattle.walk.specs.Model.{greatest, noJob, defaultCosts, byDeadline, requestOf, step, busyAfter, plan, booksAll}
 use Rattle.walk.specs.Chunks.{Sends}
 
--- what a walk starts from: costs and nodes for which the shares answer, costs within the table, free times in the time range, and jobs of at least one unit with a deadline in it
+-- a job that can be walked
+abbrev pub Walkable : Job → Type 0
+Walkable j = (1 ≤ j .size) × (j .deadline ≤ greatest) × (j .compute ≤ 1_000_000)
+
+-- what a walk starts from: costs and nodes for which the shares answer, costs within the table, free times in the time range, and jobs of at least one unit with a deadline in it and a compute cost within its limit
 pub record Ready (w : Terms) (b : Busy) (js : List Job) : Type 0 where
   pub answered : answers (defaultCosts (w .costs)) (w .nodes) ≡ true
   pub costs : CostsWithin (w .costs)
   pub free : All (λ (t : ℕ). t ≤ greatest) (take (w .nodes) (b .free))
-  pub jobs : All (λ (j : Job). (1 ≤ j .size) × (j .deadline ≤ greatest)) js
+  pub jobs : All Walkable js
 
 -- what it comes to
 pub record Walked (w : Terms) (b : Busy) (jobs : List Job) (n : ℕ) (job : Job) (r : Plan) : Type 0 where
@@ -47,10 +51,10 @@ step-best w b j e h z n =
     ⊎-elim (λ x. absurd (n (ap (λ (y : Booking). y .count) (x .0)))) (λ x. x) (book-is (requestOf w b j) (b .free) e h z)
 
 -- Its chunks can be worked out.
-pub best-sends : (w : Terms) (b : Busy) (j : Job) → w .nodes ≤ 64 → CostsWithin (w .costs) → w .nodes ≤ length (b .free) → j .deadline ≤ greatest → Best (requestOf w b j) (b .free) (step w b j .booking)
+pub best-sends : (w : Terms) (b : Busy) (j : Job) → w .nodes ≤ 64 → CostsWithin (w .costs) → w .nodes ≤ length (b .free) → j .deadline ≤ greatest → j .compute ≤ 1_000_000 → Best (requestOf w b j) (b .free) (step w b j .booking)
     → Sends (w .costs) (step w b j)
 unfolding bookingOf
-best-sends w b j f r h d x =
+best-sends w b j f r h d p x =
     let q : Booking = step w b j .booking in
     let k : q .count ≡ length (chosen q) = ap (λ (y : Booking). y .count) (x .blank) in
     let m : length (chosen q) ≤ w .nodes = no-more (w .nodes) (b .free) (ranked (w .nodes) (b .free)) (ranked-is (w .nodes) (b .free) h) (chosen q) (x .best .choice .known) (x .best .choice .differ) in
@@ -61,6 +65,7 @@ best-sends w b j f r h d x =
       known = all-map (λ y a. (a .0, omega (arith, a .1))) (chosen q) (x .best .choice .known);
       ends = omega (arith, x .best .choice .ends);
       costs = r;
+      compute = p;
     }
 
 -- Jobs in a row, of which the one at place i comes next.

@@ -6,7 +6,7 @@ use native.Mathlib.Omega.{arith}
 use lib.ListN.{length, length-set}
 use Rattle.walk.specs.declared.Busy.{Busy}
 use Rattle.walk.specs.Model.{greatest}
-use Rattle.walk.specs.Chunks.{latestFrom, node-known, ends-next, chunk-adds}
+use Rattle.walk.specs.Chunks.{latestFrom, node-known, ends-next, begins-within}
 use Rattle.walk.proofs.Sizes.{nodes-length, shares-length, free-length}
 use Rattle.soundness.specs.Steps.{bounded-sends, Fitting, fitting-start, fitting-more, fitting-link, fitting-node, fitting-all}
 use borrow.Author.Needs.{needs}
@@ -44,7 +44,7 @@ chunk-on-requires c κs =
     let a = z .args in
     let s = bounded-sends (a .costs) (a .job) (z .pre) (nodes-length (a .job) (z .good .1 .1 .0)) (shares-length (a .job) (z .good .1 .1 .0)) in
     let l = c .before .before .before .loop in
-    chunk-adds (a .costs) (a .job) s (l .i) (l .from) (c .before .before .loop-test .taken) (l .inv .2)
+    (z .pre .costs, z .pre .compute, begins-within (a .costs) (a .job) s (l .i) (l .from) (c .before .before .loop-test .taken) (l .inv .2))
 
 sub-place : tie.Need-sub-place Inv-loop μ-loop
 sub-place c =

@@ -5,13 +5,13 @@ use mathlib.Core.Path.{_≡_, sym, ap, subst, _∙_}
 use Prim.Native.Nat.{ℕ, _*_, _-_, _≤_, _<_}
 use native.Mathlib.Omega.{arith}
 use lib.Dec.{leb, eqb}
-use lib.ListN.{length, getD}
+use lib.ListN.{length}
 use lib.Seq.{slice}
 use Rattle.booking.specs.Best.{units}
 use Rattle.walk.specs.Model.{greatest, ownCosts}
 use Rattle.walk.proofs.Sizes.{shares-length}
 use Rattle.soundness.specs.Model.{sharesKept}
-use Rattle.soundness.specs.Steps.{finish-small, keptBehind, kept-start, shares-step, shares-small, shares-over, sent-finish, shares-none}
+use Rattle.soundness.specs.Steps.{keptBehind, kept-start, shares-step, shares-small, shares-over, sent-finish, shares-none}
 use borrow.Author.Needs.{needs}
 use Rattle.soundness.proofs.shares_kept.Statement.{statement}
 use Rattle.soundness.proofs.shares_kept.Tie as tie
@@ -61,10 +61,7 @@ element-copy-out-chunk-on-2 c =
 chunk-on-requires : tie.Need-chunk-on-requires Inv-loop μ-loop
 chunk-on-requires c κs =
     let z = c .before .before .before .before .before .before .before .before in
-    let a = z .args in
-    let l = c .before .before .before .before .before .before .loop in
-    let w = c .before .before .before .wide32 .ensures in
-    (z .pre .costs, finish-small (a .costs) (a .job .compute) (l .from) (getD (a .job .booking .shares) (l .i) 0) (z .pre .costs) (z .pre .compute) (l .inv .2) (omega (arith, w .0, w .1)))
+    (z .pre .costs, z .pre .compute, c .before .before .before .before .before .before .loop .inv .2)
 
 returns-2 : tie.Need-returns-2 Inv-loop μ-loop
 returns-2 c =

@@ -5,7 +5,7 @@ use Prim.Native.Nat.{_-_, _≤_}
 use native.Mathlib.Omega.{arith}
 use Rattle.walk.specs.declared.Chunk.{Chunk}
 use Rattle.walk.specs.Model.{placed}
-use Rattle.walk.specs.Chunks.{lines-none, ends-next, chunk-adds}
+use Rattle.walk.specs.Chunks.{lines-none, ends-next, begins-within}
 use Rattle.timetable.specs.Model.{raised}
 use Rattle.timetable.specs.HeldSteps.{Raising, raising-next}
 use borrow.Author.Needs.{needs}
@@ -39,7 +39,8 @@ chunk-on-requires : tie.Need-chunk-on-requires Inv-loop μ-loop
 chunk-on-requires c κs =
     let s = c .before .before .before .before .before .before in
     let l = c .before .before .before .loop in
-    chunk-adds (s .args .costs) (s .args .job) (s .pre .sends) (l .i) (l .time) (c .before .before .loop-test .taken) (l .inv .1 .ends)
+    let begins = begins-within (s .args .costs) (s .args .job) (s .pre .sends) (l .i) (l .time) (c .before .before .loop-test .taken) (l .inv .1 .ends) in
+    search (needs, begins)
 
 mul-held : tie.Need-mul-held Inv-loop μ-loop
 mul-held c = search needs

@@ -5,7 +5,7 @@ use Prim.Native.Nat.{_+_, _-_, _≤_}
 use native.Mathlib.Omega.{arith}
 use lib.ListN.{length, length-set}
 use Rattle.walk.specs.Model.{greatest, linesOf}
-use Rattle.walk.specs.Chunks.{linesFrom, latestFrom, ends-next, chunk-adds}
+use Rattle.walk.specs.Chunks.{linesFrom, latestFrom, ends-next, begins-within}
 use Rattle.timetable.specs.Model.{rowOf}
 use Rattle.timetable.specs.LinesSteps.{Filled, row-next, row-written}
 use borrow.Author.Needs.{needs}
@@ -40,7 +40,8 @@ chunk-on-requires : tie.Need-chunk-on-requires Inv-loop μ-loop
 chunk-on-requires c κs =
     let s = c .before .before .before .before .before in
     let l = c .before .before .before .loop in
-    chunk-adds (s .args .costs) (s .args .job) (s .pre .0) (l .i) (l .from) (c .before .before .loop-test .taken) (l .inv .3)
+    let begins = begins-within (s .args .costs) (s .args .job) (s .pre .0) (l .i) (l .from) (c .before .before .loop-test .taken) (l .inv .3) in
+    search (needs, begins)
 
 add-t14 : tie.Need-add-t14 Inv-loop μ-loop
 add-t14 c = search needs
