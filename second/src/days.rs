@@ -54,6 +54,9 @@ struct Day {
     withdrawing: bool,
     /// Audio takes time to come back.
     returning: bool,
+    /// Some offers are quoted: in three of four days of each kind, with and
+    /// without withdrawals.
+    quoting: bool,
     /// So small that the exhaustive walk can run it.
     tiny: bool,
 }
@@ -87,6 +90,7 @@ impl Day {
             mixed: !random.once_in(4),
             withdrawing: seed / KINDS % 2 == 1,
             returning: !random.once_in(5),
+            quoting: seed / (2 * KINDS) % 4 != 3,
             tiny: false,
             random,
             bytes: Vec::new(),
@@ -120,9 +124,26 @@ impl Day {
         self.job_at(show, size, deadline, compute);
     }
 
+    /// The same; a few are quoted, and meanwhile the farm moves on or no offer
+    /// follows at all.
     fn job_at(&mut self, show: u64, size: u64, deadline: u64, compute: Option<u64>) {
-        let line = job_line(show, size, deadline, compute);
-        self.raw(&line);
+        let offer = Offer::new(show, size, deadline, compute);
+        if self.quotes_once_in(8) {
+            self.quotes(offer);
+            if self.random.once_in(2) {
+                return;
+            }
+            self.move_on();
+        }
+        self.offer(offer);
+    }
+
+    /// An offer for sure, on days with quotes often quoted just before.
+    fn offer(&mut self, offer: Offer) {
+        if self.quotes_once_in(2) {
+            self.quotes(offer);
+        }
+        self.raw(&offer.line(b"job"));
     }
 
     fn clock_to(&mut self, time: u64) {
@@ -182,6 +203,21 @@ impl Day {
 }
 
 impl Offer {
+    fn new(show: u64, size: u64, deadline: u64, compute: Option<u64>) -> Self {
+        Offer {
+            show,
+            size,
+            deadline,
+            compute,
+        }
+    }
+
+    /// The line that begins with `job` or `quote`.
+    fn line(self, kind: &[u8]) -> Vec<u8> {
+        let numbers = [self.show, self.size, self.deadline].into_iter();
+        line(kind, &numbers.chain(self.compute).collect::<Vec<u64>>())
+    }
+
     fn by(self, deadline: u64) -> Self {
         Offer { deadline, ..self }
     }
@@ -345,7 +381,8 @@ impl Day {
                 let r = &mut self.random;
                 let wait = r.between(horizon / 2, horizon) / 1_000 * 1_000;
                 let size = r.of_any_length(200).max(1);
-                self.job(show, size, self.clock() + wait);
+                let (deadline, compute) = (self.clock() + wait, self.some_compute());
+                self.offer(Offer::new(show, size, deadline, compute));
                 beyond += u64::from(self.waiting() == MOST_WAITING);
                 if beyond == 10 {
                     break;
@@ -393,7 +430,7 @@ impl Day {
             };
             deadline = own_costs.finish(deadline + size * costs.send_ticks(1), 1);
             let show = self.some_show();
-            self.job_at(show, size, deadline, compute);
+            self.offer(Offer::new(show, size, deadline, compute));
         }
         let starts = self.starts();
         for back in (1..=self.random.place(4) + 1).rev() {
@@ -452,6 +489,9 @@ impl Day {
             self.middling_line(nodes);
         }
         self.open_middling(nodes);
+        if self.quoting {
+            self.quote_something();
+        }
         self.accounts();
     }
 
@@ -514,12 +554,7 @@ impl Day {
     /// The least deadline granted, and often the tick before it or a compute
     /// cost just beside.
     fn job_at_the_edge(&mut self, show: u64, size: u64, compute: Option<u64>) {
-        let offer = Offer {
-            show,
-            size,
-            deadline: LAST_TICK,
-            compute,
-        };
+        let offer = Offer::new(show, size, LAST_TICK, compute);
         let farm = self.session.farm();
         let Some(Offer { deadline, .. }) = farm.and_then(|farm| offer.by_least(farm)) else {
             return self.job_at(show, size, LAST_TICK, compute);
@@ -634,6 +669,9 @@ impl Day {
     /// Lines that come too early, and openings that fail.
     fn before_opening(&mut self) {
         for _ in 0..self.random.between(1, 5) {
+            if self.quotes_once_in(4) {
+                self.quote_something();
+            }
             match self.random.between(0, 6) {
                 0..=2 => self.wrong_opening(),
                 3 => self.damaged_line(),
@@ -877,7 +915,7 @@ impl Day {
         }
         let offers = (0..TRIED_OFFERS).find_map(|_| self.offers_with_a_needed_one())?;
         for offer in offers {
-            self.job_at(offer.show, offer.size, offer.deadline, offer.compute);
+            self.offer(offer);
         }
         Some(self.numbers_used() - 2)
     }
@@ -910,12 +948,7 @@ impl Day {
         } else {
             self.some_compute()
         };
-        Offer {
-            show,
-            size,
-            deadline: LAST_TICK,
-            compute,
-        }
+        Offer::new(show, size, LAST_TICK, compute)
     }
 
     /// Hardly ever the cause of a refusal by itself.
@@ -955,6 +988,57 @@ impl Day {
     }
 }
 
+// Quotes.
+impl Day {
+    /// True once in so many times on a day with quotes.
+    fn quotes_once_in(&mut self, times: u64) -> bool {
+        self.quoting && self.random.once_in(times)
+    }
+
+    /// Often a producer shops: other deadlines are quoted first.
+    fn quotes(&mut self, offer: Offer) {
+        for _ in 0..self.random.pick(&[0, 0, 0, 1, 2, 3]) {
+            let deadline = self.deadline_beside(offer.deadline);
+            self.raw(&offer.by(deadline).line(b"quote"));
+        }
+        self.raw(&offer.line(b"quote"));
+    }
+
+    fn quote_something(&mut self) {
+        let offer = self.offer_of(9);
+        self.quotes(offer);
+    }
+
+    /// A tick away, or after half to twice the wait.
+    fn deadline_beside(&mut self, deadline: u64) -> u64 {
+        let clock = self.clock();
+        let wait = deadline.saturating_sub(clock);
+        let r = &mut self.random;
+        match r.between(0, 3) {
+            0 => deadline.saturating_sub(1),
+            1 => deadline + 1,
+            _ => clock + r.between(wait / 2, 2 * wait),
+        }
+    }
+
+    /// Something that may change the answer to an offer already quoted.
+    fn move_on(&mut self) {
+        match self.some_waiting() {
+            Some(job) if self.withdraws_once_in(2) => self.withdraw(job),
+            _ => self.clock_near_a_start(),
+        }
+    }
+
+    /// The first word of a line that is an offer or a quote.
+    fn kind_of_offer(&mut self) -> &'static [u8] {
+        if self.quotes_once_in(2) {
+            b"quote"
+        } else {
+            b"job"
+        }
+    }
+}
+
 // Damage.
 impl Day {
     /// A line with something wrong in it, mostly: some damage is harmless.
@@ -965,6 +1049,9 @@ impl Day {
         if self.withdraws_once_in(4) {
             return self.odd_withdrawal();
         }
+        if self.quotes_once_in(4) {
+            return self.odd_quote();
+        }
         let mut line = self.good_line();
         for _ in 0..self.random.pick(&[1, 1, 1, 2, 3]) {
             self.damage(&mut line);
@@ -974,8 +1061,8 @@ impl Day {
 
     /// Whatever may stand behind the deadline; some of it can be read.
     fn odd_compute(&mut self) {
-        let show = self.some_show();
-        let mut line = job_line(show, 1, self.clock() + 2_000, None);
+        let offer = Offer::new(self.some_show(), 1, self.clock() + 2_000, None);
+        let mut line = offer.line(self.kind_of_offer());
         line.extend_from_slice(self.random.pick(&[
             b"\t".as_slice(),
             b"\t\t",
@@ -1065,6 +1152,57 @@ impl Day {
         self.raw(line.as_bytes());
     }
 
+    /// Whatever may stand around the three numbers of a quote, or in place of one
+    /// of them; some of it can be read.
+    fn odd_quote(&mut self) {
+        let show = self.some_show();
+        let deadline = self.clock() + 2_000;
+        let (before, size, after) = self.random.pick(&[
+            ("quote\t", "1", ""),
+            ("quote\t", "001", ""),
+            ("quote\t", "0000000000001", ""),
+            ("quote\t", "00000000000001", ""),
+            ("quote\t", "10000000000000", ""),
+            ("quote\t", "", ""),
+            ("quote\t", "\t", ""),
+            ("quote\t", "1\t1", ""),
+            ("quote\t", "1\t1\t1", ""),
+            ("quote\t", "+1", ""),
+            ("quote\t", "-1", ""),
+            ("quote\t", " 1", ""),
+            ("quote\t", "1 ", ""),
+            ("quote\t", "1.0", ""),
+            ("quote\t", "one", ""),
+            ("quote\t", "1", "\r"),
+            ("quote\t", "1", "\0"),
+            ("quote\t", "1", "0000000000"),
+            ("quote\t0", "1", ""),
+            ("quote\t0000000000000", "1", ""),
+            ("quote\t\t", "1", ""),
+            ("quote\tjob\t", "1", ""),
+            ("quote ", "1", ""),
+            ("quote", "1", ""),
+            ("\tquote\t", "1", ""),
+            (" quote\t", "1", ""),
+            ("Quote\t", "1", ""),
+            ("quotes\t", "1", ""),
+            ("quot\t", "1", ""),
+            ("job quote\t", "1", ""),
+            ("job\tquote\t", "1", ""),
+            ("yes\t", "1", ""),
+        ]);
+        let around = format!("{before}{show}\t{size}\t{deadline}{after}");
+        let of_two = format!("quote\t{show}\t1");
+        let line = match self.random.between(0, 15) {
+            0 => "quote",
+            1 => "quote\t",
+            2 => "quote\t\t\t",
+            3 => &of_two,
+            _ => &around,
+        };
+        self.raw(line.as_bytes());
+    }
+
     fn good_line(&mut self) -> Vec<u8> {
         if self.withdraws_once_in(4) {
             let job = self.some_waiting().unwrap_or(1);
@@ -1075,7 +1213,10 @@ impl Day {
         let time = self.clock() + self.random.between(0, 3);
         match self.random.between(0, 3) {
             0 => farm_line(2, Costs::new(1, 2, 3, 4, 5), &[6, 7]),
-            1 => job_line(show, 1 + time % 9, time + 1_000, compute),
+            1 => {
+                let offer = Offer::new(show, 1 + time % 9, time + 1_000, compute);
+                offer.line(self.kind_of_offer())
+            }
             2 => line(b"clock", &[time]),
             _ => line(b"account", &[show]),
         }
@@ -1141,11 +1282,6 @@ fn line(kind: &[u8], numbers: &[u64]) -> Vec<u8> {
     text::print(&mut line, kind, numbers);
     line.pop();
     line
-}
-
-fn job_line(show: u64, size: u64, deadline: u64, compute: Option<u64>) -> Vec<u8> {
-    let numbers = [show, size, deadline].into_iter().chain(compute);
-    line(b"job", &numbers.collect::<Vec<u64>>())
 }
 
 fn farm_line(nodes: u64, costs: Costs, allowances: &[u64]) -> Vec<u8> {

@@ -1,13 +1,13 @@
 //! The exhaustive walk, word for word from the paper: every start, every set
 //! of free nodes, every share list. For tiny days only.
 
-use crate::job::{Begun, Booking, Chunk, Job, Plan, Walk};
+use crate::job::{Begun, Booking, Chunk, Job, Plan, Walk, Walked};
 use crate::node::FreeNode;
 use crate::share::Costs;
 use std::cmp::Reverse;
 
 #[derive(Clone, Debug, Default)]
-pub struct Exhaustive;
+pub struct Exhaustive(Walked);
 
 /// One way to run a job at a given start. The order of the fields is the order
 /// in which the paper chooses: the least of all ways is taken.
@@ -30,20 +30,23 @@ struct Course {
 }
 
 impl Walk for Exhaustive {
-    fn book(&mut self, begun: &Begun, plan: &mut Plan, new: Job) -> bool {
+    fn book(&mut self, begun: &Begun, plan: &Plan, new: Job) -> bool {
         let mut course = Course::new(begun);
         let mut jobs: Vec<Job> = plan.bookings.iter().map(|b| b.job).collect();
         jobs.push(new);
         jobs.sort_by_key(|job| (job.deadline, job.number));
-        let mut next = Plan::default();
+        self.0 = Walked::default();
         for job in jobs {
             match course.earliest(job) {
-                Some((start, way)) => course.take(job, start, &way, &mut next),
+                Some((start, way)) => course.take(job, start, &way, &mut self.0),
                 None => return false,
             }
         }
-        *plan = next;
         true
+    }
+
+    fn walked(&self) -> &Walked {
+        &self.0
     }
 }
 
@@ -101,21 +104,21 @@ impl Course {
     }
 
     /// Books the job this way and updates the free times.
-    fn take(&mut self, job: Job, start: u64, way: &Way, plan: &mut Plan) {
+    fn take(&mut self, job: Job, start: u64, way: &Way, walked: &mut Walked) {
         let shares = &way.shares.0;
         let spans = spans(job.costs(self.farm_costs), start, shares);
         for ((&units, (send_end, finish)), &(_, node)) in shares.iter().zip(spans).zip(&way.nodes) {
             self.link_free = send_end;
             self.node_free[node as usize - 1] = finish;
             let free = FreeNode::new(node, finish);
-            plan.chunks.push_back(Chunk {
+            walked.chunks.push(Chunk {
                 units,
                 send_end,
                 free,
             });
         }
         let nodes = way.node_count;
-        plan.bookings.push_back(Booking { job, start, nodes });
+        walked.bookings.push(Booking { job, start, nodes });
     }
 }
 

@@ -4,7 +4,7 @@
 //! else writes, and hands the next one back in the same place. A refused call
 //! changes nothing.
 
-use crate::job::{Begun, Booking, Job, Plan, Record, Walk};
+use crate::job::{Begun, Job, Plan, Record, Walk};
 use crate::limits::*;
 use crate::node::Ranking;
 use crate::refusal::Refusal;
@@ -25,7 +25,7 @@ struct Held {
     ticks: u64,
 }
 
-/// The answer to a granted offer.
+/// The answer to a granted offer or quote.
 #[derive(Clone, Copy, Debug, PartialEq, Eq)]
 pub struct Accepted {
     pub job: u64,
@@ -81,8 +81,9 @@ impl<W: Walk> Farm<W> {
         })
     }
 
-    /// The farm's p serves where the offer gives none.
-    pub fn offer(
+    /// The answer that an offer would get. The farm stays as it is; only the
+    /// walk's own memory is written. The farm's p serves where none is given.
+    pub fn quote(
         &mut self,
         show: u64,
         size: u64,
@@ -104,27 +105,31 @@ impl<W: Walk> Farm<W> {
             deadline,
             compute,
         };
-        let booked = self.walk.book(&self.begun, &mut self.plan, new);
+        let booked = self.walk.book(&self.begun, &self.plan, new);
         ask(booked, Refusal::NotBookable)?;
-        self.numbers_used = new.number;
-        self.plan.as_walked = self.waiting();
-        Ok(self.accepted(new))
+        let (booking, chunks) = self.walk.walked().booking_of(new);
+        let finish = chunks.iter().map(|chunk| chunk.free.time()).max();
+        Ok(Accepted {
+            job: new.number,
+            start: booking.start,
+            finish: finish.unwrap_or(booking.start),
+            nodes: booking.nodes,
+        })
     }
 
-    /// The new job's booking: the last of its deadline.
-    fn accepted(&self, new: Job) -> Accepted {
-        let plan = &self.plan;
-        let up_to_new = |b: &Booking| b.job.deadline <= new.deadline;
-        let place = plan.bookings.partition_point(up_to_new) - 1;
-        let Booking { start, nodes, .. } = plan.bookings[place];
-        let first = plan.chunks_of_first(place);
-        let chunks = plan.chunks.range(first..first + nodes);
-        Accepted {
-            job: new.number,
-            start,
-            finish: chunks.map(|chunk| chunk.free.time()).max().unwrap_or(start),
-            nodes,
-        }
+    /// Takes what a quote would give: its number is used, and the plan follows
+    /// its walk.
+    pub fn offer(
+        &mut self,
+        show: u64,
+        size: u64,
+        deadline: u64,
+        own_compute: Option<u64>,
+    ) -> Result<Accepted, Refusal> {
+        let accepted = self.quote(show, size, deadline, own_compute)?;
+        self.numbers_used = accepted.job;
+        self.plan.follow(self.walk.walked());
+        Ok(accepted)
     }
 
     /// Moves the clock, issues the chunks of the jobs that begin, and answers

@@ -83,6 +83,16 @@ impl Plan {
         self.bookings.range(..bookings).map(|b| b.nodes).sum()
     }
 
+    /// Follows a walk, whose first bookings are the plan's own.
+    pub fn follow(&mut self, walked: &Walked) {
+        let kept_chunks = self.chunks_of_first(walked.kept);
+        self.bookings.truncate(walked.kept);
+        self.chunks.truncate(kept_chunks);
+        self.bookings.extend(&walked.bookings);
+        self.chunks.extend(&walked.chunks);
+        self.as_walked = self.bookings.len();
+    }
+
     /// Takes one booking out; the others stay as they are.
     pub fn remove(&mut self, place: usize) {
         let first = self.chunks_of_first(place);
@@ -114,9 +124,32 @@ impl Plan {
     }
 }
 
+/// What a walk booked, in the plan's order.
+#[derive(Clone, Debug, Default)]
+pub struct Walked {
+    /// So many bookings of the plan come first and stay as they are.
+    pub kept: usize,
+    pub bookings: Vec<Booking>,
+    pub chunks: Vec<Chunk>,
+}
+
+impl Walked {
+    /// The new job's booking, which is the last of its deadline, and its chunks.
+    pub fn booking_of(&self, new: Job) -> (Booking, &[Chunk]) {
+        let up_to_new = |b: &Booking| b.job.deadline <= new.deadline;
+        let place = self.bookings.partition_point(up_to_new) - 1;
+        let first = self.bookings[..place].iter().map(|b| b.nodes).sum();
+        let booking = self.bookings[place];
+        (booking, &self.chunks[first..][..booking.nodes])
+    }
+}
+
 /// A way to book the waiting jobs.
 pub trait Walk: Default {
-    /// Books the waiting jobs and the new one into the plan and answers true,
-    /// or leaves the plan as it is and answers false.
-    fn book(&mut self, begun: &Begun, plan: &mut Plan, new: Job) -> bool;
+    /// Whether all waiting jobs and the new one are booked. The plan is only
+    /// looked at.
+    fn book(&mut self, begun: &Begun, plan: &Plan, new: Job) -> bool;
+
+    /// What the last walk booked, where that was all jobs.
+    fn walked(&self) -> &Walked;
 }

@@ -54,10 +54,17 @@ impl<W: Walk> Session<W> {
                 text::print(answers, b"open", &[nodes, farm.show_count()]);
                 self.farm = Some(farm);
             }
-            (b"job", &[show, size, deadline, ref rest @ ..], Some(farm)) if rest.len() <= 1 => {
-                let yes = farm.offer(show, size, deadline, rest.first().copied())?;
-                let fields = [yes.job, yes.start, yes.finish, yes.nodes as u64];
-                text::print(answers, b"yes", &fields);
+            (b"job" | b"quote", &[show, size, deadline, ref rest @ ..], Some(farm))
+                if rest.len() <= 1 =>
+            {
+                let compute = rest.first().copied();
+                let (word, given) = if kind == b"quote" {
+                    (kind, farm.quote(show, size, deadline, compute)?)
+                } else {
+                    (&b"yes"[..], farm.offer(show, size, deadline, compute)?)
+                };
+                let fields = [given.job, given.start, given.finish, given.nodes as u64];
+                text::print(answers, word, &fields);
             }
             (b"clock", &[time], Some(farm)) => {
                 let issued = farm.move_clock(time, &mut self.timetable)?;

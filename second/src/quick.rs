@@ -10,7 +10,7 @@
 //! Since the last walk a job may have been withdrawn. Those behind it then meet
 //! other free times, so none of them is kept: one may move, or even fail.
 
-use crate::job::{Begun, Booking, Chunk, Job, Plan, Walk};
+use crate::job::{Begun, Booking, Chunk, Job, Plan, Walk, Walked};
 use crate::node::{FreeNode, MovingRanking};
 use crate::share::Windows;
 
@@ -20,9 +20,7 @@ pub struct Quick {
     /// No start precedes this: the clock or the link's free time.
     ready: u64,
     ranking: MovingRanking,
-    /// The new job's booking and those after it, until all are booked.
-    bookings: Vec<Booking>,
-    chunks: Vec<Chunk>,
+    walked: Walked,
     /// The nodes that one job takes.
     taken: Vec<FreeNode>,
 }
@@ -33,15 +31,23 @@ pub struct Quick {
 pub struct Whole(Quick);
 
 impl Walk for Quick {
-    fn book(&mut self, begun: &Begun, plan: &mut Plan, new: Job) -> bool {
+    fn book(&mut self, begun: &Begun, plan: &Plan, new: Job) -> bool {
         let kept = place_of(plan, new).min(plan.as_walked);
         self.book_behind(begun, plan, new, kept)
+    }
+
+    fn walked(&self) -> &Walked {
+        &self.walked
     }
 }
 
 impl Walk for Whole {
-    fn book(&mut self, begun: &Begun, plan: &mut Plan, new: Job) -> bool {
+    fn book(&mut self, begun: &Begun, plan: &Plan, new: Job) -> bool {
         self.0.book_behind(begun, plan, new, 0)
+    }
+
+    fn walked(&self) -> &Walked {
+        self.0.walked()
     }
 }
 
@@ -54,31 +60,26 @@ fn place_of(plan: &Plan, new: Job) -> usize {
 impl Quick {
     /// Books the waiting jobs and the new one behind the first bookings, which
     /// are kept.
-    fn book_behind(&mut self, begun: &Begun, plan: &mut Plan, new: Job, kept: usize) -> bool {
+    fn book_behind(&mut self, begun: &Begun, plan: &Plan, new: Job, kept: usize) -> bool {
         let place = place_of(plan, new);
-        let kept_chunks = plan.chunks_of_first(kept);
-        self.begin(begun, plan, kept_chunks);
+        self.begin(begun, plan, kept);
         let earlier = plan.bookings.range(kept..place).map(|b| b.job);
         let later = plan.bookings.range(place..).map(|b| b.job);
         // Worked out again only where a job's costs differ from the last one's.
         let mut windows = begun.windows;
-        for job in earlier.chain(std::iter::once(new)).chain(later) {
+        let mut jobs = earlier.chain(std::iter::once(new)).chain(later);
+        jobs.all(|job| {
             windows.change(job.costs(begun.windows.costs()));
-            if !self.book_next(&windows, job) {
-                return false;
-            }
-        }
-        plan.bookings.truncate(kept);
-        plan.chunks.truncate(kept_chunks);
-        plan.bookings.extend(&self.bookings);
-        plan.chunks.extend(&self.chunks);
-        true
+            self.book_next(&windows, job)
+        })
     }
 
     /// Begins behind the kept bookings.
-    fn begin(&mut self, begun: &Begun, plan: &Plan, kept_chunks: usize) {
-        self.bookings.clear();
-        self.chunks.clear();
+    fn begin(&mut self, begun: &Begun, plan: &Plan, kept: usize) {
+        self.walked.kept = kept;
+        self.walked.bookings.clear();
+        self.walked.chunks.clear();
+        let kept_chunks = plan.chunks_of_first(kept);
         self.ready = begun.clock.max(begun.link_free);
         if kept_chunks == 0 {
             self.ranking.begin(&begun.ranking);
@@ -100,7 +101,7 @@ impl Quick {
         for (share, free) in shares.zip(self.ranking.row()) {
             let free = FreeNode::new(free.node(), start + share.finish);
             self.taken.push(free);
-            self.chunks.push(Chunk {
+            self.walked.chunks.push(Chunk {
                 units: share.units,
                 send_end: start + share.send_end,
                 free,
@@ -109,7 +110,7 @@ impl Quick {
         }
         self.taken.sort_unstable();
         self.ranking.replace_first(&self.taken);
-        self.bookings.push(Booking { job, start, nodes });
+        self.walked.bookings.push(Booking { job, start, nodes });
         true
     }
 

@@ -4,7 +4,7 @@
 use second::days::{day, tiny_day};
 use second::exhaustive::Exhaustive;
 use second::farm::Farm;
-use second::job::{Begun, Booking, Chunk, Job, Plan, Record, Walk};
+use second::job::{Begun, Booking, Chunk, Job, Plan, Record, Walk, Walked};
 use second::node::FreeNode;
 use second::program::{answers, run};
 use second::quick::Quick;
@@ -75,16 +75,16 @@ fn waiting<W: Walk>(farm: &Farm<W>) -> Vec<Record> {
 
 /// A walk over all jobs anew that tries every node count and halves.
 #[derive(Default)]
-struct Plain;
+struct Plain(Walked);
 
 impl Walk for Plain {
-    fn book(&mut self, begun: &Begun, plan: &mut Plan, new: Job) -> bool {
+    fn book(&mut self, begun: &Begun, plan: &Plan, new: Job) -> bool {
         let mut jobs: Vec<Job> = plan.bookings.iter().map(|b| b.job).collect();
         jobs.push(new);
         jobs.sort_by_key(|job| (job.deadline, job.number));
         let mut row = begun.ranking.row().to_vec();
         let mut link_free = begun.link_free;
-        let mut next = Plan::default();
+        self.0 = Walked::default();
         for job in jobs {
             row.sort_by_key(|free| (free.time(), free.node()));
             let starts = row
@@ -102,16 +102,19 @@ impl Walk for Plain {
             for (share, free) in windows.shares(job.size, window).zip(&mut row) {
                 *free = FreeNode::new(free.node(), start + share.finish);
                 link_free = start + share.send_end;
-                next.chunks.push_back(Chunk {
+                self.0.chunks.push(Chunk {
                     units: share.units,
                     send_end: link_free,
                     free: *free,
                 });
             }
-            next.bookings.push_back(Booking { job, start, nodes });
+            self.0.bookings.push(Booking { job, start, nodes });
         }
-        *plan = next;
         true
+    }
+
+    fn walked(&self) -> &Walked {
+        &self.0
     }
 }
 

@@ -6,7 +6,7 @@ use common::{check, tabs};
 use second::days::{day, tiny_day};
 use second::exhaustive::Exhaustive;
 use second::farm::Farm;
-use second::job::{Begun, Job, Plan, Record, Walk};
+use second::job::{Begun, Job, Plan, Record, Walk, Walked};
 use second::limits::*;
 use second::program::{run, Session};
 use second::quick::{Quick, Whole};
@@ -298,12 +298,16 @@ thread_local! {
 struct Counting(Quick);
 
 impl Walk for Counting {
-    fn book(&mut self, begun: &Begun, plan: &mut Plan, new: Job) -> bool {
+    fn book(&mut self, begun: &Begun, plan: &Plan, new: Job) -> bool {
         let booked = self.0.book(begun, plan, new);
         if !booked && !old_jobs_walk(begun, plan) {
             IN_VAIN.set(IN_VAIN.get() + 1);
         }
         booked
+    }
+
+    fn walked(&self) -> &Walked {
+        self.0.walked()
     }
 }
 
@@ -313,7 +317,13 @@ fn old_jobs_walk(begun: &Begun, plan: &Plan) -> bool {
     let mut anew = Plan::default();
     let mut walk = Whole::default();
     let mut jobs = plan.bookings.iter().map(|booking| booking.job);
-    jobs.all(|job| walk.book(begun, &mut anew, job))
+    jobs.all(|job| {
+        let booked = walk.book(begun, &anew, job);
+        if booked {
+            anew.follow(walk.walked());
+        }
+        booked
+    })
 }
 
 /// Offers in vain on a day.

@@ -24,7 +24,7 @@ use Rattle.planner.specs.Passes.{passesOf}
 
 -- ---- Answers
 
--- which answer it is: the paper's words open, yes, clock, account, gone and no; what showing answers has no word there
+-- which answer it is: the paper's words open, yes, clock, account, gone, quote and no; what showing answers has no word there
 pub data Word : Type 0 where
   Open : Word
   Yes : Word
@@ -32,6 +32,7 @@ pub data Word : Type 0 where
   Shown : Word
   Account : Word
   Gone : Word
+  Quote : Word
   No : Word
 
 -- an answer in the paper's terms: its word; the number of the question that was answered no, 0 where all were answered yes; and the values
@@ -68,6 +69,7 @@ said (answer.Clock t n) = granted Clock (t ∷ n ∷ [])
 said (answer.Shown n) = granted Shown (n ∷ [])
 said (answer.Account s h c) = granted Account (s ∷ h ∷ c ∷ [])
 said (answer.Gone j) = granted Gone (j ∷ [])
+said (answer.Quote j s t k) = granted Quote (j ∷ s ∷ t ∷ k ∷ [])
 said (answer.No q) = refused (numberOf q)
 
 -- a reply says so and hands this farm back
@@ -227,6 +229,27 @@ offerSaid f o =
 
 unfoldable pub offerFarm : Farm → Offer → Farm
 offerFarm f o = cond (eqb (offerAsked f o) 0) (cond (accepts f o) (withPlan f (planned f o)) f) f
+
+-- ---- Quote
+
+-- the word quote in place of yes; every other word stays
+abbrev pub quoteWord : Word → Word
+quoteWord Open = Open
+quoteWord Yes = Quote
+quoteWord Clock = Clock
+quoteWord Shown = Shown
+quoteWord Account = Account
+quoteWord Gone = Gone
+quoteWord Quote = Quote
+quoteWord No = No
+
+-- an answer with that word: its number and its values stay
+abbrev pub asQuote : Said → Said
+asQuote a = record { word = quoteWord (a .word); number = a .number; values = a .values }
+
+-- what an offer to a copy of the farm is told, job number and refusals included, with quote in place of yes. The farm itself stays.
+unfoldable pub quoteSaid : Farm → Offer → Said
+quoteSaid f o = asQuote (offerSaid f o)
 
 -- ---- Withdrawal
 

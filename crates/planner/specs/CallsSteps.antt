@@ -25,7 +25,7 @@ use Rattle.planner.specs.declared.Answer.the-variants as answer
 use Rattle.planner.specs.Model.{greatest, between, costsWithin, defaultCosts, waitingOf, termsOf, busyOf, byDeadline}
 use Rattle.planner.specs.Passes.{passesOf}
 use Rattle.planner.specs.PassesSteps.{passes-within, passes-jobs}
-use Rattle.planner.specs.Calls.{Account, said, granted, refused, numberOf, Replies, unopened, openedWith, showsWithin, openSaid, openFarm, heldBy, allowanceOf, accountSaid, computeOf, offerAsked, offerSaid, offerFarm}
+use Rattle.planner.specs.Calls.{Account, said, granted, refused, numberOf, Replies, unopened, openedWith, showsWithin, openSaid, openFarm, heldBy, allowanceOf, accountSaid, computeOf, offerAsked, offerSaid, offerFarm, asQuote, quoteSaid}
 
 -- ---- Questions
 
@@ -144,6 +144,11 @@ module _ (f : Farm) (o : Offer) where
   unfolding offerSaid offerFarm
   offer-refused r q e a n =
       record { says = ap (λ (x : Reply). said (x .answer)) e ∙ rw (a, n); hands = ap (λ (x : Reply). x .farm) e ∙ rw (a, n) }
+
+-- A quote of a farm that does not pass is refused with 11.
+pub quote-unsound : (f : Farm) (o : Offer) → passesOf f ≡ false → quoteSaid f o ≡ refused 11
+unfolding quoteSaid offerSaid
+quote-unsound f o e = let s : offerSaid f o ≡ refused 11 = rw (asked-farm f o e) in ap asQuote s
 
 -- ---- What the functions of an offer promise each other
 

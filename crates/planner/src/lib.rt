@@ -1,9 +1,10 @@
-// The farm: opening, offers, withdrawals, clock moves, showing and accounts. Each call takes the farm as a value and hands the next
+// The farm: opening, offers, quotes, withdrawals, clock moves, showing and accounts. Each call takes the farm as a value and hands the next
 // one back. What each call means is in specs/Calls.antt and specs/Clock.antt.
 mod calls;
 mod clock;
 mod offers;
 mod passing;
+mod quote;
 mod withdraw;
 
 use limits::FarmCosts;
@@ -84,6 +85,12 @@ pub enum Answer {
     },
     Gone {
         job: u64,
+    },
+    Quote {
+        job: u64,
+        start: u64,
+        finish: u64,
+        nodes: u64,
     },
     No(Question),
 }
