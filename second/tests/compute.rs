@@ -162,13 +162,14 @@ fn a_cheaper_p_may_be_refused() {
     );
 }
 
-/// A day without own compute costs, and the same with the farm's in each offer.
+/// A day without own compute costs, and the same with the farm's in each offer and
+/// quote.
 fn without_and_with_the_farms(day: &[u8]) -> (Vec<u8>, Vec<u8>) {
     let mut session = Session::<Quick>::default();
     let (mut without, mut with) = (Vec::new(), Vec::new());
     for line in day.split(|&byte| byte == b'\n') {
         let mut fields: Vec<&[u8]> = line.split(|&byte| byte == b'\t').collect();
-        let is_offer = fields[0] == b"job" && fields.len() >= 4;
+        let is_offer = matches!(fields[0], b"job" | b"quote") && fields.len() >= 4;
         if is_offer {
             fields.truncate(4);
         }

@@ -61,6 +61,8 @@ fn another_shape_is_unreadable() {
     ];
     for shape in shapes {
         assert_eq!(answer(shape), b"no\t11\n", "{}", shape.escape_ascii());
+        let quote = as_quote(shape);
+        assert_eq!(answer(&quote), b"no\t11\n", "{}", quote.escape_ascii());
     }
     assert_eq!(answer(b"withdraw\t0000000000001"), b"no\t12\n");
     assert_eq!(answer(b"job\t01\t001\t0000000000030"), b"yes\t1\t0\t3\t1\n");
@@ -69,12 +71,25 @@ fn another_shape_is_unreadable() {
         answer(b"job\t1\t1\t30\t0000000000001"),
         b"yes\t1\t0\t2\t1\n"
     );
+    assert_eq!(
+        answer(b"quote\t01\t001\t0000000000030\t0000000000001"),
+        b"quote\t1\t0\t2\t1\n"
+    );
+}
+
+/// The shape of an offer as that of a quote; any other stays.
+fn as_quote(shape: &[u8]) -> Vec<u8> {
+    let shape = String::from_utf8_lossy(shape);
+    let quote = shape.replace("job", "quote").replace("Job", "Quote");
+    quote.into_bytes()
 }
 
 #[test]
 fn lines_before_a_farm() {
     assert_eq!(answers(b""), b"");
     assert_eq!(answers(b"\n\nclock\t0"), b"no\t11\nno\t11\nno\t11\n");
+    assert_eq!(answers(b"job\t1\t1\t9"), b"no\t11\n");
+    assert_eq!(answers(b"quote\t1\t1\t9"), b"no\t11\n");
     assert_eq!(answers(b"farm\t1\t1\t1\t0"), b"no\t11\n");
     assert_eq!(answers(b"farm\t1\t1\t1\t0\t0\t0\t"), b"no\t11\n");
     let many = [

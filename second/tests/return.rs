@@ -290,7 +290,8 @@ fn with_return(day: &[u8], return_cost: u64) -> Option<Vec<u8>> {
 }
 
 /// The day and the same with r = 0 and every p dearer by r, both without the
-/// offers whose p would be too dear; none if the farm's would be, or r is 0.
+/// offers and quotes whose p would be too dear; none if the farm's would be, or r
+/// is 0.
 fn with_dearer_compute(day: &[u8]) -> Option<(Vec<u8>, Vec<u8>)> {
     let (lines, opening) = lines_and_opening(day);
     let opening = opening?;
@@ -305,11 +306,13 @@ fn with_dearer_compute(day: &[u8]) -> Option<(Vec<u8>, Vec<u8>)> {
     dearer.push(write(b"farm", &numbers));
     for line in &lines[opening + 1..] {
         match read(line) {
-            (b"job", numbers) if numbers.len() == 4 && is_compute_cost(numbers[3]) => {
+            (kind @ (b"job" | b"quote"), numbers)
+                if numbers.len() == 4 && is_compute_cost(numbers[3]) =>
+            {
                 let own = numbers[3] + return_cost;
                 if is_compute_cost(own) {
                     kept.push(line.clone());
-                    dearer.push(write(b"job", &[&numbers[..3], &[own]].concat()));
+                    dearer.push(write(kind, &[&numbers[..3], &[own]].concat()));
                 }
             }
             _ => {

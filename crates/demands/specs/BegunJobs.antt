@@ -8,7 +8,8 @@ use Rattle.walk.specs.declared.Job.{Job}
 use Rattle.walk.specs.declared.Chunk.{Chunk}
 use Rattle.walk.specs.Chain.{spans-lines}
 use Rattle.walk.specs.Order.{by-start-perm, by-start-grows}
-use Rattle.timetable.specs.Keep.{keep-perm, starts-split}
+use Rattle.lists.specs.Keep.{keep-perm}
+use Rattle.timetable.specs.ByStart.{starts-split}
 use Rattle.planner.specs.declared.Farm.{Farm}
 use Rattle.planner.specs.Model.{Span, spansOf, spansOfAll, byStart, waitingOf}
 use Rattle.planner.specs.Clock.{keep, startsAfter, linesOfAll, begun, left}

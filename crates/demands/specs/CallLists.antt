@@ -1,12 +1,13 @@
--- A list of offers, withdrawals and clock moves after a granted opening, each given the farm that the one before it handed back, and what is noted
+-- A list of offers, quotes, withdrawals and clock moves after a granted opening, each given the farm that the one before it handed back, and what is noted
 -- of it. Everything here is a definition; nothing is assumed.
 use Prim.Native.Nat.{ℕ, zero, suc, _+_, _≤_, max}
 use mathlib.Core.Path.{_≡_}
 use mathlib.Core.List.{List, [], _∷_, _++_, map, List·Memᴰ}
-use mathlib.Core.Bool.{Bool, true, cond}
+use mathlib.Core.Bool.{Bool, true, false, cond}
 use lib.Dec.{eqb}
 use lib.ListN.{length, getD, take}
 use Rattle.lists.specs.Laws.{All}
+use Rattle.lists.specs.Keep.{keep, answersTo}
 use Rattle.shares.specs.declared.Costs.{Costs}
 use Rattle.limits.specs.declared.FarmCosts.{FarmCosts}
 use Rattle.shares.specs.Model.{sendEnd, chunkFinish}
@@ -15,26 +16,29 @@ use Rattle.walk.specs.declared.Chunk.{Chunk}
 use Rattle.planner.specs.declared.Farm.{Farm}
 use Rattle.planner.specs.declared.Offer.{Offer}
 use Rattle.planner.specs.Model.{costsFor, Span, linesOf, spansOf, waitingOf}
-use Rattle.planner.specs.Calls.{Said, ofNumber, computeOf, planned, offerSaid, offerFarm, withdrawSaid, withdrawFarm}
+use Rattle.planner.specs.Calls.{Said, ofNumber, computeOf, planned, offerSaid, offerFarm, quoteSaid, withdrawSaid, withdrawFarm}
 use Rattle.planner.specs.Clock.{holds, moveSaid, moveFarm, moveMemory}
 
 -- ---- A call
 
--- an offer; the withdrawal of a job by its number; or a move to a time, lent a timetable of any length and contents
+-- an offer; a quote of one; the withdrawal of a job by its number; or a move to a time, lent a timetable of any length and contents
 pub data Call : Type 0 where
   offer : Offer → Call
+  quote : Offer → Call
   withdraw : ℕ → Call
   move : ℕ → List Chunk → Call
 
 -- what it answers
 abbrev pub reply : Farm → Call → Said
 reply f (offer o) = offerSaid f o
+reply f (quote o) = quoteSaid f o
 reply f (withdraw n) = withdrawSaid f n
 reply f (move t m) = moveSaid f t (length m)
 
--- the farm that it hands back
+-- the farm that it hands back: a quote the farm that it was given
 abbrev pub handed : Farm → Call → Farm
 handed f (offer o) = offerFarm f o
+handed f (quote o) = f
 handed f (withdraw n) = withdrawFarm f n
 handed f (move t m) = moveFarm f t (length m)
 
@@ -49,6 +53,7 @@ withStart f x = record { from = ofNumber (x .job) (waitingOf f) .booking .start;
 -- the chunks that it issues: as many records as it answers, from the front of the memory that it hands back
 abbrev pub linesBy : Farm → Call → List Span
 linesBy f (offer o) = []
+linesBy f (quote o) = []
 linesBy f (withdraw n) = []
 linesBy f (move t m) = cond (isGranted f (move t m)) (map (withStart f) (take (getD (moveSaid f t (length m) .values) 1 0) (moveMemory f t m))) []
 
@@ -63,24 +68,28 @@ pub record Accepted : Type 0 where
 -- the job that it accepts, with the number that it answers and the compute cost that is given or the farm's
 abbrev pub jobsBy : Farm → Call → List Accepted
 jobsBy f (offer o) = cond (isGranted f (offer o)) (record { number = getD (offerSaid f o .values) 0 0; show = o .show; size = o .size; compute = computeOf f o; deadline = o .deadline } ∷ []) []
+jobsBy f (quote o) = []
 jobsBy f (withdraw n) = []
 jobsBy f (move t m) = []
 
 -- the number of the job that it withdraws: the one that it answers
 abbrev pub goneBy : Farm → Call → List ℕ
 goneBy f (offer o) = []
+goneBy f (quote o) = []
 goneBy f (withdraw n) = cond (isGranted f (withdraw n)) (getD (withdrawSaid f n .values) 0 0 ∷ []) []
 goneBy f (move t m) = []
 
 -- the plan of the latest walk that replaced the plan: that of a granted offer, else the former
 abbrev pub planBy : Farm → List Job → Call → List Job
 planBy f js (offer o) = cond (isGranted f (offer o)) (planned f o) js
+planBy f js (quote o) = js
 planBy f js (withdraw n) = js
 planBy f js (move t m) = js
 
 -- the time of the last granted clock move
 abbrev pub timeBy : Farm → ℕ → Call → ℕ
 timeBy f u (offer o) = u
+timeBy f u (quote o) = u
 timeBy f u (withdraw n) = u
 timeBy f u (move t m) = cond (isGranted f (move t m)) t u
 
@@ -115,6 +124,24 @@ note w c = record {
 unfoldable pub run : History → List Call → History
 run w [] = w
 run w (c ∷ cs) = run (note w c) cs
+
+-- each call with what it answers
+abbrev pub answersOf : Farm → List Call → List (Call × Said)
+answersOf f cs = answersTo handed reply f cs
+
+-- whether it is no quote
+abbrev pub noQuote : Call → Bool
+noQuote (offer o) = true
+noQuote (quote o) = false
+noQuote (withdraw n) = true
+noQuote (move t m) = true
+
+-- the list with its quotes left out, and the answers of the other calls
+abbrev pub leftOut : List Call → List Call
+leftOut cs = keep noQuote cs
+
+abbrev pub otherAnswers : Farm → List Call → List (Call × Said)
+otherAnswers f cs = keep (λ (a : Call × Said). noQuote (a .0)) (answersOf f cs)
 
 -- ---- What is compared
 
@@ -183,12 +210,14 @@ pub record Waits (x : Accepted) (f : Farm) : Type 0 where
 -- the call is a granted clock move that reaches the start u
 abbrev pub Reaches : Farm → Call → ℕ → Type 0
 Reaches f (offer o) u = ⊥
+Reaches f (quote o) u = ⊥
 Reaches f (withdraw n) u = ⊥
 Reaches f (move t m) u = (isGranted f (move t m) ≡ true) × (u ≤ t)
 
 -- the call is a granted withdrawal of job n
 abbrev pub Withdraws : Farm → Call → ℕ → Type 0
 Withdraws f (offer o) n = ⊥
+Withdraws f (quote o) n = ⊥
 Withdraws f (withdraw k) n = (isGranted f (withdraw k) ≡ true) × (k ≡ n)
 Withdraws f (move t m) n = ⊥
 

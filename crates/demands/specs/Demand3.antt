@@ -55,7 +55,7 @@ use Rattle.planner.specs.Calls.{ofNumber, without, Open, Said, granted, refused
 use Rattle.demands.specs.OfferPasses.{waiting-planned}
 use Rattle.planner.specs.Clock.{begun, issued, moveAsked}
 use Rattle.demands.specs.Starts.{StartsDiffer, starts-differ, next-few, next-granted}
-use Rattle.demands.specs.CallLists.{Call, offer, withdraw, move, handed, isGranted, linesBy, Accepted, jobsBy, History, opening, note, run, heldOf, upTo, linesFor, latestFinish, latestSent, acceptedOf, Fulfils, FromFirst, Waits, IssuesNone, Lifecycle}
+use Rattle.demands.specs.CallLists.{Call, offer, quote, withdraw, move, handed, isGranted, linesBy, Accepted, jobsBy, History, opening, note, run, heldOf, upTo, linesFor, latestFinish, latestSent, acceptedOf, Fulfils, FromFirst, Waits, IssuesNone, Lifecycle}
 use Rattle.demands.specs.BegunJobs.{chunkOf}
 use Rattle.queue.specs.Numbers.{numberOfJob, of-number-has}
 use Rattle.demands.specs.WithdrawPasses.{leaves-others, withdrawn-waiting}
@@ -337,6 +337,7 @@ module _ (w : History) (i : Inv w) where
 
 -- A job that a call accepts waits after it.
 new-among : (f : Farm) (c : Call) → Sized f → All (λ (x : Accepted). Among x (handed f c)) (jobsBy f c)
+new-among f (quote o) z = tt
 new-among f (withdraw n) z = tt
 new-among f (move t m) z = tt
 new-among f (offer o) z = ⊎-elim (λ r. subst (All (λ (x : Accepted). Among x (handed f (offer o)))) (sym (r .jobs)) tt) takes (outcome f (offer o) z)
@@ -387,6 +388,7 @@ call-withdrawal f n z e = ⊎-elim (λ r. absurd (false≢true (sym (r .says) �
 -- No call after it issues a chunk of a job that a call has issued.
 issued-issues-none : (w : History) (c : Call) (cs : List Call) → Inv w → All (λ (y : Span). IssuesNone (y .chunk .job) (handed (w .farm) c) cs) (linesBy (w .farm) c)
 issued-issues-none w (offer o) cs i = tt
+issued-issues-none w (quote o) cs i = tt
 issued-issues-none w (withdraw n) cs i = tt
 issued-issues-none w (move t m) cs i = ⊎-elim (λ r. subst (All P) (sym (r .lines)) tt) moves (outcome (w .farm) (move t m) (i .sized))
   where

@@ -29,7 +29,7 @@ use Rattle.demands.specs.QuestionEleven.{passes-iff}
 use Rattle.planner.specs.Calls.{ofNumber, without, openedWith, showsWithin, openFarm, heldBy, newJob, queueOf, planned, withPlan, withdrawnFarm}
 use Rattle.demands.specs.OfferPasses.{all-replicate, opens-with, open-sized, open-passes, waiting-planned, accepted-sized, accepted-passes}
 use Rattle.planner.specs.Clock.{begun, left, issued, movedFarm}
-use Rattle.demands.specs.CallLists.{Call, offer, withdraw, move, Accepted, History, opening, note, run, heldOf, upTo, acceptedOf}
+use Rattle.demands.specs.CallLists.{Call, offer, quote, withdraw, move, Accepted, History, opening, note, run, heldOf, upTo, acceptedOf}
 use Rattle.timetable.specs.BeginSteps.{afters-append}
 use Rattle.demands.specs.BegunJobs.{begun-left, spans-append, chunkOf, spans-chunks}
 use Rattle.demands.specs.HeldTicks.{afters-within, sum-within, held-part, held-append, held-free, raised-held}
@@ -130,6 +130,10 @@ pub refused-note : (w : History) (c : Call) → Refused (w .farm) c → note w c
 refused-note w c r =
     same-world (r .hands) (ap (λ (l : List Span). w .lines ++ l) (r .lines) ∙ append-nil (w .lines)) (ap (λ (l : List Accepted). w .jobs ++ l) (r .jobs) ∙ append-nil (w .jobs))
     (ap (λ (l : List ℕ). w .gone ++ l) (r .gone) ∙ append-nil (w .gone)) (r .latest (w .latest)) (r .time (w .time))
+
+-- So it is of a quote, given or refused.
+pub quote-note : (w : History) (o : Offer) → note w (quote o) ≡ w
+quote-note w o = same-world refl (append-nil (w .lines)) (append-nil (w .jobs)) (append-nil (w .gone)) refl refl
 
 -- ---- An accepted offer
 
@@ -385,6 +389,7 @@ module _ (w : History) (t : ℕ) (m : List Chunk) where
 -- A call keeps the invariant.
 pub note-inv : (w : History) (c : Call) → Inv w → Inv (note w c)
 note-inv w (offer o) i = ⊎-elim (λ r. subst Inv (sym (refused-note w (offer o) r)) i) (λ k. subst Inv (sym (takes-note w o k)) (takes-inv w o i k)) (outcome (w .farm) (offer o) (i .sized))
+note-inv w (quote o) i = subst Inv (sym (quote-note w o)) i
 note-inv w (withdraw n) i = ⊎-elim (λ r. subst Inv (sym (refused-note w (withdraw n) r)) i) (λ k. subst Inv (sym (leaves-note w n k)) (leaves-inv w n i k)) (outcome (w .farm) (withdraw n) (i .sized))
 note-inv w (move t m) i = ⊎-elim (λ r. subst Inv (sym (refused-note w (move t m) r)) i) (λ k. subst Inv (sym (moves-note w t m k)) (moves-inv w t m i k)) (outcome (w .farm) (move t m) (i .sized))
 

@@ -12,7 +12,7 @@ use Rattle.planner.specs.Model.{costsFor, defaultCosts, waitingOf}
 use Rattle.planner.specs.Passes.{passesOf}
 use Rattle.planner.specs.Calls.{hasNumber, computeOr, computeOf, planned, accepts, withPlan, offerAsked, offerSaid, offerFarm, withdrawnFarm, withdrawFarm}
 use Rattle.planner.specs.Clock.{movedFarm, moveAsked, moveFarm}
-use Rattle.demands.specs.CallLists.{Call, offer, withdraw, move, handed, isGranted, Accepted, jobsBy, acceptedCosts, History, opening, note, run}
+use Rattle.demands.specs.CallLists.{Call, offer, quote, withdraw, move, handed, isGranted, Accepted, jobsBy, acceptedCosts, History, opening, note, run}
 
 -- no call changes these
 pub record Keeps (f g : Farm) : Type 0 where
@@ -30,6 +30,7 @@ handed-keeps f (offer o) = go (eqb (offerAsked f o) 0) (accepts f o)
     go true true = record { opened = refl; shows = refl; allowances = refl; costs = refl }
     go true false = record { opened = refl; shows = refl; allowances = refl; costs = refl }
     go false b = record { opened = refl; shows = refl; allowances = refl; costs = refl }
+handed-keeps f (quote o) = record { opened = refl; shows = refl; allowances = refl; costs = refl }
 handed-keeps f (withdraw n) = go (passesOf f && hasNumber n (waitingOf f))
   where
     go : (a : Bool) → Keeps f (cond {A = Farm} a (withdrawnFarm f n) f)
@@ -55,6 +56,7 @@ run-keeps w (c ∷ cs) =
 -- the call is no offer that gives a compute cost
 abbrev pub GivesNone : Call → Type 0
 GivesNone (offer o) = o .compute ≡ Absent
+GivesNone (quote o) = Unit
 GivesNone (withdraw n) = Unit
 GivesNone (move t m) = Unit
 
@@ -68,6 +70,7 @@ call-at f (offer o) h = go (isGranted f (offer o)) (record { number = getD (offe
     go : (b : Bool) (x : Accepted) → x .compute ≡ f .costs .compute → All (At (f .costs)) (cond b (x ∷ []) [])
     go true x e = (ap (costsFor (f .costs)) e, tt)
     go false x e = tt
+call-at f (quote o) h = tt
 call-at f (withdraw n) h = tt
 call-at f (move t m) h = tt
 

@@ -29,8 +29,8 @@ use Rattle.soundness.specs.Sweep.{placed-from, spans-all}
 use Rattle.planner.specs.Calls.{hasNumber, ofNumber, without, newJob, queueOf, planned, withPlan, withdrawnFarm}
 use Rattle.demands.specs.OfferPasses.{waiting-planned}
 use Rattle.planner.specs.Clock.{startsBy, startsAfter, begun, left, movedFarm}
-use Rattle.demands.specs.CallLists.{Call, offer, withdraw, move, handed, linesBy, Accepted, History, note, linesFor, unitsIn, acceptedOf, Fulfils, FromFirst, Waits, NoneOf, IssuesNone, Lifecycle, waits, passes, begins, withdrawn}
-use Rattle.timetable.specs.Keep.{keep-all}
+use Rattle.demands.specs.CallLists.{Call, offer, quote, withdraw, move, handed, linesBy, Accepted, History, note, linesFor, unitsIn, acceptedOf, Fulfils, FromFirst, Waits, NoneOf, IssuesNone, Lifecycle, waits, passes, begins, withdrawn}
+use Rattle.lists.specs.Keep.{keep-all}
 use Rattle.demands.specs.BegunJobs.{begun-left}
 use Rattle.queue.specs.Numbers.{numberOfJob, of-number-has}
 use Rattle.demands.specs.WithdrawPasses.{leaves-others, withdrawn-waiting, others-differ}
@@ -225,6 +225,7 @@ module _ (n : ℕ) (f : Farm) (z : Sized f) (e : passesOf f ≡ true) where
   no-longer-stays : (c : Call) → NoLongerWaits n f → NoneOf n (linesBy f c) × NoLongerWaits n (handed f c)
   no-longer-stays (offer o) g =
       (tt, ⊎-elim (λ r. subst (NoLongerWaits n) (sym (r .hands)) g) (λ k. subst (NoLongerWaits n) (sym (k .hands)) (no-longer-takes o g k)) (outcome f (offer o) z))
+  no-longer-stays (quote o) g = (tt, g)
   no-longer-stays (withdraw k) g =
       (tt, ⊎-elim (λ r. subst (NoLongerWaits n) (sym (r .hands)) g) (λ l. subst (NoLongerWaits n) (sym (l .hands)) (no-longer-leaves k g l)) (outcome f (withdraw k) z))
   no-longer-stays (move t m) g =
@@ -331,6 +332,8 @@ lifecycle x w [] i m = waits (among-waits x (w .farm) (i .sized) (i .passes) m)
 lifecycle x w (offer o ∷ cs) i m =
     passes {c = offer o} (among-waits x (w .farm) (i .sized) (i .passes) m) (λ q. q) (λ q. q) tt
     (lifecycle x (note w (offer o)) cs (note-inv w (offer o) i) (among-offer x (w .farm) o (i .sized) m))
+lifecycle x w (quote o ∷ cs) i m =
+    passes {c = quote o} (among-waits x (w .farm) (i .sized) (i .passes) m) (λ q. q) (λ q. q) tt (lifecycle x (note w (quote o)) cs (note-inv w (quote o) i) m)
 lifecycle x w (withdraw n ∷ cs) i m = go (λ h. lifecycle x (note w (withdraw n)) cs (note-inv w (withdraw n) i) h) (outcome (w .farm) (withdraw n) (i .sized))
   where
     here : Waits x (w .farm)

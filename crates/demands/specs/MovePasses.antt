@@ -24,7 +24,7 @@ use Rattle.demands.specs.QuestionEleven.{passes-iff}
 use Rattle.timetable.specs.LinesSteps.{lines-length}
 use Rattle.limits.specs.Tests.{and-both}
 use Rattle.planner.specs.Clock.{startsBy, startsAfter, begun, left, linesOfAll, issued, movedFarm}
-use Rattle.timetable.specs.Keep.{keep-all, keep-length}
+use Rattle.lists.specs.Keep.{keep-all, keep-length}
 use Rattle.timetable.specs.HeldSteps.{raised-length}
 use Rattle.demands.specs.BegunJobs.{later, begun-later, later-left, begun-left, spans-append, spans-chunks}
 use Rattle.queue.specs.Numbers.{numberOfJob}

@@ -1,4 +1,4 @@
--- What a call does, one of four: it is refused, it takes a job, it lets one leave, or it moves the clock.
+-- What a call does, where it is no quote: it is refused, it takes a job, it lets one leave, or it moves the clock. A quote does none of these.
 use mathlib.Core.Path.{_≡_, refl, ap, ap₂, sym, subst, _∙_}
 use mathlib.Core.List.{List, [], _∷_, _++_, map, List·Memᴰ, List·Memᴰ·head, List·Permᴰ·trans, List·Permᴰ·append-comm}
 use mathlib.Core.Bool.{Bool, true, false}
@@ -24,8 +24,8 @@ use Rattle.walk.specs.Plan.{plan-numbers}
 use Rattle.planner.specs.Calls.{granted, hasNumber, ofNumber, computeOf, newJob, queueOf, planned, accepts, withPlan, offerAsked, offerSaid, offerFarm, OfferGranted, withdrawnFarm, withdrawSaid, withdrawFarm}
 use Rattle.planner.specs.OfferSteps.{offer-granted}
 use Rattle.planner.specs.Clock.{startsBy, begun, linesOfAll, issued, movedFarm, moveAsked, moveSaid, moveFarm, moveMemory}
-use Rattle.demands.specs.CallLists.{Call, offer, withdraw, move, handed, isGranted, withStart, linesBy, Accepted, jobsBy, goneBy, planBy, timeBy}
-use Rattle.timetable.specs.Keep.{keep-all}
+use Rattle.demands.specs.CallLists.{Call, offer, quote, withdraw, move, handed, isGranted, withStart, linesBy, Accepted, jobsBy, goneBy, planBy, timeBy}
+use Rattle.lists.specs.Keep.{keep-all}
 use Rattle.queue.specs.Numbers.{numberOfJob, of-number-is, has-number, of-number-has}
 use Rattle.planner.specs.ClockSteps.{MoveGranted, move-granted}
 use Rattle.demands.specs.MovePasses.{waiting-differ}
@@ -72,6 +72,7 @@ pub record Moves (f : Farm) (t : ℕ) (m : List Chunk) : Type 0 where
 -- what a call may do
 abbrev pub Outcome : Farm → Call → Type 0
 Outcome f (offer o) = Refused f (offer o) ⊎ Takes f o
+Outcome f (quote o) = Unit
 Outcome f (withdraw n) = Refused f (withdraw n) ⊎ Leaves f n
 Outcome f (move t m) = Refused f (move t m) ⊎ Moves f t m
 
@@ -166,7 +167,7 @@ withdraw-fails f n e = record { says = rw e; hands = rw e; lines = refl; jobs = 
 
 -- ---- Any call
 
--- A call is refused, or takes a job, or lets one leave, or moves the clock.
+-- A call that is no quote is refused, or takes a job, or lets one leave, or moves the clock.
 pub outcome : (f : Farm) (c : Call) → Sized f → Outcome f c
 outcome f (offer o) k = go (eqb (offerAsked f o) 0) (accepts f o) refl refl
   where
@@ -174,6 +175,7 @@ outcome f (offer o) k = go (eqb (offerAsked f o) 0) (accepts f o) refl refl
     go true true p q = inr (offer-takes f o (offer-granted f o (eqb-true (offerAsked f o) 0 p)) p q)
     go true false p q = inl (offer-fails f o p q)
     go false b p q = inl (offer-stays f o p)
+outcome f (quote o) k = tt
 outcome f (withdraw n) k = go (passesOf f) (hasNumber n (waitingOf f)) refl refl
   where
     go : (a b : Bool) → passesOf f ≡ a → hasNumber n (waitingOf f) ≡ b → Refused f (withdraw n) ⊎ Leaves f n

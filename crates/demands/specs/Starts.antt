@@ -20,7 +20,7 @@ use Rattle.planner.specs.Model.{greatest, between, ownCosts, chunksFrom, Span, 
 use Rattle.planner.specs.Passes.{passesOf}
 use Rattle.demands.specs.QuestionEleven.{passes-iff}
 use Rattle.planner.specs.Clock.{keep, startsBy, begun, issued, moveAsked}
-use Rattle.timetable.specs.Keep.{keep-all}
+use Rattle.lists.specs.Keep.{keep-all}
 use Rattle.planner.specs.ClockSteps.{move-asked}
 use Rattle.demands.specs.MovePasses.{Waiting, waiting-jobs, begun-jobs, lines-few}
 

@@ -1,7 +1,8 @@
 -- A clock move and showing the timetable: what each answers, the farm that it hands back and what it leaves in the lent memory.
 -- Everything here is a definition; nothing is assumed. What begins by a time, lines and held ticks over lists of jobs are those of the crate timetable.
 pub use Rattle.timetable.specs.Model.{startsBy, startsAfter, holds}
-unfoldable pub use Rattle.timetable.specs.Model.{keep, linesOfAll, raised}
+unfoldable pub use Rattle.lists.specs.Keep.{keep}
+unfoldable pub use Rattle.timetable.specs.Model.{linesOfAll, raised}
 use Prim.Native.Nat.{ℕ, _+_}
 use mathlib.Core.List.{List, [], _∷_, _++_}
 use mathlib.Core.Bool.{cond}

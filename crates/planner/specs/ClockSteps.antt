@@ -21,7 +21,7 @@ use Rattle.timetable.specs.declared.Due.{Due}
 use Rattle.timetable.specs.BeginSteps.{chunks, Few, RaisesAll}
 use Rattle.timetable.specs.DueSteps.{IsDue}
 use Rattle.timetable.specs.LinesSteps.{all-lines}
-use Rattle.timetable.specs.Keep.{keep-all, keep-none, keep-every}
+use Rattle.lists.specs.Keep.{keep-all, keep-none, keep-every}
 use Rattle.limits.specs.Model.{CostsWithin}
 use Rattle.limits.specs.Says.{between-is}
 use Rattle.soundness.specs.Sound.{JobKept}

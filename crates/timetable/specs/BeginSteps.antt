@@ -5,13 +5,14 @@ use Prim.Native.Nat.{ℕ, _+_, _-_, _≤_, _<_}
 use borrow.Author.Tests.{le-leb, lt-leb}
 use lib.ListN.{length, getD, take, drop}
 use Rattle.lists.specs.Laws.{All, front-next}
+use Rattle.lists.specs.Keep.{keep}
 use Rattle.limits.specs.declared.FarmCosts.{FarmCosts}
 use Rattle.walk.specs.declared.Job.{Job}
 use Rattle.walk.specs.declared.Busy.{Busy}
 use Rattle.walk.specs.declared.Chunk.{Chunk}
 use Rattle.walk.specs.Model.{noJob, afters}
 use Rattle.walk.specs.Chunks.{Sends}
-use Rattle.timetable.specs.Model.{startsAfter, keep}
+use Rattle.timetable.specs.Model.{startsAfter}
 
 -- how many chunks jobs have
 unfoldable pub chunks : List Job → ℕ

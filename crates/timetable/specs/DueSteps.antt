@@ -10,6 +10,7 @@ use lib.Dec.{leb}
 use borrow.Author.Tests.{le-leb, lt-leb}
 use lib.ListN.{length, getD, take, drop, set}
 use Rattle.lists.specs.Laws.{All, all-map, front-next, front-none}
+use Rattle.lists.specs.Keep.{keep, keep-all, keep-perm}
 use Rattle.lists.specs.Fronts.{Kept, kept-more, kept-front}
 use Rattle.keys.specs.declared.Key.{Key}
 use Rattle.keys.specs.Model.{noLater, sortKeys, sortedFront}
@@ -19,8 +20,7 @@ use Rattle.walk.specs.Model.{noJob, keysBy, inOrder, startOf, byStart}
 use Rattle.walk.specs.Order.{by-start-perm}
 use Rattle.walk.specs.OrderSteps.{order-within, in-order-front}
 use Rattle.timetable.specs.declared.Due.{Due}
-use Rattle.timetable.specs.Model.{keep, startsBy}
-use Rattle.timetable.specs.Keep.{keep-all, keep-perm}
+use Rattle.timetable.specs.Model.{startsBy}
 use Rattle.timetable.specs.BeginSteps.{chunks}
 
 -- r is what a move to t begins of the first `waiting` jobs of a row: its keys name the jobs that start by t, in order of start

@@ -5,4 +5,4 @@ pub mod DueSteps
 pub mod HeldSteps
 pub mod LinesSteps
 pub mod BegunSteps
-pub mod Keep
+pub mod ByStart

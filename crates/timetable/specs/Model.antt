@@ -9,11 +9,6 @@ use Rattle.walk.specs.declared.Job.{Job}
 use Rattle.walk.specs.declared.Chunk.{Chunk}
 use Rattle.walk.specs.Model.{Span, linesOf}
 
--- the elements of a list that pass a test, in their order
-unfoldable pub keep : {A : Type 0} → (A → Bool) → List A → List A
-keep p [] = []
-keep p (x ∷ xs) = cond (p x) (x ∷ keep p xs) (keep p xs)
-
 -- its start is at most t
 abbrev pub startsBy : ℕ → Job → Bool
 startsBy t j = leb (j .booking .start) t

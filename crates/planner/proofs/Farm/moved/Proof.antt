@@ -9,7 +9,8 @@ use Rattle.lists.specs.Laws.{front-none}
 use Rattle.lists.specs.Fronts.{behind-same, Kept, kept-more, kept-all}
 use Rattle.walk.specs.declared.Job.{Job}
 use Rattle.walk.specs.Model.{noJob}
-use Rattle.timetable.specs.Model.{keep, startsAfter}
+use Rattle.lists.specs.Keep.{keep}
+use Rattle.timetable.specs.Model.{startsAfter}
 use Rattle.timetable.specs.BeginSteps.{keep-next, keep-past}
 use Rattle.planner.specs.declared.Farm.{Farm}
 use Rattle.planner.specs.Calls.{withWaiting}

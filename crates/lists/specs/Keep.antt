@@ -1,14 +1,21 @@
--- The elements of a list that pass a test; of jobs in order of start, those that start by a time stand before the others.
-use mathlib.Core.Path.{_≡_, refl, ap, subst}
-use mathlib.Core.List.{List, [], _∷_, _++_, List·Permᴰ, List·Permᴰ·nil, List·Permᴰ·cons, List·Permᴰ·swap, List·Permᴰ·trans, Permᴰ·refl}
-use mathlib.Core.Bool.{Bool, true, false, cond, not}
-use Prim.Native.Nat.{ℕ, suc, _≤_, _<_}
+-- The elements of a list that pass a test; and inputs answered one after the other, of which those that change nothing can be left out.
+use mathlib.Core.Path.{_≡_, refl, ap, sym, subst, _∙_}
+use mathlib.Core.List.{List, [], _∷_, List·Permᴰ, List·Permᴰ·nil, List·Permᴰ·cons, List·Permᴰ·swap, List·Permᴰ·trans, Permᴰ·refl}
+use mathlib.Core.Bool.{Bool, true, false, cond}
+use Prim.Native.Nat.{suc, _≤_}
 use native.Mathlib.Omega.{arith}
-use borrow.Author.Tests.{leb-true, leb-false}
 use lib.ListN.{length}
-use Rattle.lists.specs.Laws.{All, Pairs, all-map}
-use Rattle.walk.specs.declared.Job.{Job}
-use Rattle.timetable.specs.Model.{startsBy, startsAfter, keep}
+use Rattle.lists.specs.Laws.{All}
+
+-- the elements of a list that pass a test, in their order
+unfoldable pub keep : {A : Type 0} → (A → Bool) → List A → List A
+keep p [] = []
+keep p (x ∷ xs) = cond (p x) (x ∷ keep p xs) (keep p xs)
+
+-- each input with what it is answered in the state that the one before it leaves
+unfoldable pub answersTo : {S A B : Type 0} → (S → A → S) → (S → A → B) → S → List A → List (A × B)
+answersTo next said s [] = []
+answersTo next said s (x ∷ xs) = (x, said s x) ∷ answersTo next said (next s x) xs
 
 module _ {A : Type 0} (p : A → Bool) where
   -- What holds of all holds of those that pass, and they pass.
@@ -63,23 +70,18 @@ module _ {A : Type 0} (p : A → Bool) where
       (subst (λ (y : A). List·Permᴰ (keep p (a ∷ b ∷ l)) (keep p (b ∷ y ∷ l))) e (cond-swap (p a) (p b) a b (keep p l)))
   keep-perm (List·Permᴰ·trans d₁ d₂) = List·Permᴰ·trans (keep-perm d₁) (keep-perm d₂)
 
--- Of jobs in order of start, those that start by t stand before the others.
-pub starts-split : (t : ℕ) (js : List Job) → Pairs (λ (a b : Job). a .booking .start ≤ b .booking .start) js → js ≡ keep (startsBy t) js ++ keep (startsAfter t) js
-unfolding keep
-starts-split t [] h = refl
-starts-split t (j ∷ js) h = go (startsBy t j) refl (starts-split t js (h .1))
-  where
-    go : (b : Bool) → startsBy t j ≡ b → js ≡ keep (startsBy t) js ++ keep (startsAfter t) js
-        → j ∷ js ≡ cond b (j ∷ keep (startsBy t) js) (keep (startsBy t) js) ++ cond (not b) (j ∷ keep (startsAfter t) js) (keep (startsAfter t) js)
-    go true e r = ap (λ (l : List Job). j ∷ l) r
-    go false e r =
-        let l : t < j .booking .start = leb-false (j .booking .start) t e in
-        let late : All (λ (x : Job). startsBy t x ≡ false) js = all-map (λ x k. not-by x (omega arith)) js (h .0) in
-        rw (keep-none (startsBy t) js late, keep-every (startsAfter t) js (all-map (λ x k. rw k) js late))
-      where
-        not-by : (x : Job) → t < x .booking .start → startsBy t x ≡ false
-        not-by x k = elim-bool (startsBy t x) refl
-          where
-            elim-bool : (b : Bool) → startsBy t x ≡ b → startsBy t x ≡ false
-            elim-bool true q = absurd (omega (arith, leb-true (x .booking .start) t q))
-            elim-bool false q = q
+-- ---- Leaving out what changes nothing
+
+module _ {S A B : Type 0} (p : A → Bool) (next : S → A → S) (said : S → A → B) (same : (s : S) (x : A) → p x ≡ false → next s x ≡ s) where
+  -- Where an input that fails the test leaves the state as it is, the others are answered without it what they are answered with it.
+  pub answers-keep : (s : S) (xs : List A) → answersTo next said s (keep p xs) ≡ keep (λ (a : A × B). p (a .0)) (answersTo next said s xs)
+  unfolding keep answersTo
+  answers-keep s [] = refl
+  answers-keep s (x ∷ xs) = go (p x) refl (answers-keep (next s x) xs)
+    where
+      rest : List (A × B)
+      rest = keep (λ (a : A × B). p (a .0)) (answersTo next said (next s x) xs)
+
+      go : (b : Bool) → p x ≡ b → answersTo next said (next s x) (keep p xs) ≡ rest → answersTo next said s (cond b (x ∷ keep p xs) (keep p xs)) ≡ cond b ((x, said s x) ∷ rest) rest
+      go true e r = ap (λ (l : List (A × B)). (x, said s x) ∷ l) r
+      go false e r = ap (λ (t : S). answersTo next said t (keep p xs)) (sym (same s x e)) ∙ r
