@@ -15,6 +15,9 @@ const WAITING: usize = 120;
 /// Lines of such a day.
 const QUEUE_LINES: usize = 6_000;
 
+/// The last waiting job's, on days whose walks are the same.
+const LAST_DEADLINE: u64 = 1_000_000;
+
 const COSTS: Costs = Costs {
     send: 3,
     compute: 200,
@@ -37,6 +40,7 @@ pub fn long_days() -> Vec<LongDay> {
     let loose = Queue {
         name: "loose deadlines, full queue",
         return_cost: 0,
+        quotes: 0,
         make_room: begin_a_few,
         compute: no_compute,
         deadline: loose_deadline,
@@ -62,14 +66,22 @@ pub fn long_days() -> Vec<LongDay> {
         compute: speech_or_music,
         ..withdrawals
     };
-    vec![
+    let quotes = Queue {
+        name: "three quotes before each offer, full queue",
+        quotes: 3,
+        ..loose
+    };
+    let mut days = vec![
         loose.day(),
         tight.day(),
         short_lines(100_000),
         mixed.day(),
         withdrawals.day(),
         returns.day(),
-    ]
+        quotes.day(),
+    ];
+    days.extend(same_walks());
+    days
 }
 
 struct Writer {
@@ -102,9 +114,16 @@ impl Writer {
         self.day.lines += 1;
     }
 
-    fn job(&mut self, show: u64, size: u64, deadline: u64, compute: Option<u64>) {
-        let numbers = [show, size, deadline].into_iter().chain(compute);
-        self.line(b"job", &numbers.collect::<Vec<u64>>());
+    /// A line with an offer's fields: `job` or `quote`.
+    fn offer(&mut self, kind: &[u8], fields: [u64; 3], compute: Option<u64>) {
+        let numbers = fields.into_iter().chain(compute);
+        self.line(kind, &numbers.collect::<Vec<u64>>());
+    }
+
+    /// Whether an offer of these would be granted.
+    fn gives(&self, [show, size, deadline]: [u64; 3]) -> bool {
+        let farm = self.session.farm().cloned();
+        farm.is_some_and(|mut farm| farm.quote(show, size, deadline, None).is_ok())
     }
 
     fn waiting(&self) -> usize {
@@ -131,6 +150,8 @@ impl Writer {
 struct Queue {
     name: &'static str,
     return_cost: u64,
+    /// Deadlines quoted before each offer.
+    quotes: usize,
     /// What happens whenever more wait.
     make_room: fn(&mut Writer),
     compute: fn(&mut Random) -> Option<u64>,
@@ -155,8 +176,12 @@ impl Queue {
                 compute: own.unwrap_or(farm_costs.compute),
                 ..farm_costs
             };
+            for _ in 0..self.quotes {
+                let deadline = (self.deadline)(&mut writer, costs, size);
+                writer.offer(b"quote", [show, size, deadline], own);
+            }
             let deadline = (self.deadline)(&mut writer, costs, size);
-            writer.job(show, size, deadline, own);
+            writer.offer(b"job", [show, size, deadline], own);
         }
         writer.day
     }
@@ -213,6 +238,56 @@ fn tight_deadline(writer: &mut Writer, costs: Costs, size: u64) -> u64 {
         last
     };
     start + window * 3 / 2 + writer.random.between(0, 2_000)
+}
+
+/// Three days whose walks are the same up to the last waiting job, so that their
+/// times tell what a quote costs beside an offer that is refused at the end: such
+/// offers, the same lines as quotes, and these on a farm that gives them. The last
+/// day also books the last job, each time on many nodes.
+fn same_walks() -> [LongDay; 3] {
+    let mut refused = all_but_one("offers refused at the last job, full queue");
+    let mut quoted = all_but_one("the same as quotes, refused, full queue");
+    let mut given = all_but_one("the same as quotes, given, full queue");
+    let most = most_units(&refused, LAST_DEADLINE);
+    refused.offer(b"job", [1, most, LAST_DEADLINE], None);
+    quoted.offer(b"job", [1, most, LAST_DEADLINE], None);
+    // With time to spare.
+    given.offer(b"job", [1, most - most / 16, LAST_DEADLINE], None);
+    while refused.day.lines < QUEUE_LINES {
+        let r = &mut refused.random;
+        let (show, size) = (r.between(1, 8), r.between(20, 400));
+        let fields = [show, size, r.between(100_000, 290_000)];
+        if !refused.gives(fields) && given.gives(fields) {
+            refused.offer(b"job", fields, None);
+            quoted.offer(b"quote", fields, None);
+            given.offer(b"quote", fields, None);
+        }
+    }
+    [refused.day, quoted.day, given.day]
+}
+
+/// The jobs that wait before the last one; offers come before all of them.
+fn all_but_one(name: &'static str) -> Writer {
+    let mut writer = Writer::new(name, COSTS);
+    while writer.waiting() + 1 < WAITING {
+        let r = &mut writer.random;
+        let (show, size) = (r.between(1, 8), r.between(20, 400));
+        let fields = [show, size, r.between(300_000, 900_000)];
+        writer.offer(b"job", fields, None);
+    }
+    writer
+}
+
+/// The most units of a job behind all others.
+fn most_units(writer: &Writer, deadline: u64) -> u64 {
+    let bits = (0..MOST_UNITS.ilog2()).rev().map(|bit| 1 << bit);
+    bits.fold(0, |most, bit| {
+        if writer.gives([1, most + bit, deadline]) {
+            most + bit
+        } else {
+            most
+        }
+    })
 }
 
 /// Short lines with few jobs waiting: accounts, clock moves, refusals.

@@ -136,9 +136,9 @@ noQuote (quote o) = false
 noQuote (withdraw n) = true
 noQuote (move t m) = true
 
--- the list with its quotes left out, and the answers of the other calls
-abbrev pub leftOut : List Call → List Call
-leftOut cs = keep noQuote cs
+-- the list with its quotes left out, and what its other calls answer
+abbrev pub withoutQuotes : List Call → List Call
+withoutQuotes cs = keep noQuote cs
 
 abbrev pub otherAnswers : Farm → List Call → List (Call × Said)
 otherAnswers f cs = keep (λ (a : Call × Said). noQuote (a .0)) (answersOf f cs)

@@ -1,9 +1,9 @@
--- Cases A to M of document 01, "Windows to try", cases of a job's own compute cost, of a withdrawal and of the way back, each a table and a theorem about
+-- Cases A to M of document 01, "Windows to try", cases of a job's own compute cost, of a withdrawal, of the way back and of quotes, each a table and a theorem about
 -- the model.
 -- The checker works each row out.
 use Prim.Native.Nat.{ℕ, _+_}
 use mathlib.Core.Path.{_≡_, refl}
-use mathlib.Core.List.{List, [], _∷_, _++_}
+use mathlib.Core.List.{List, [], _∷_, _++_, map}
 use mathlib.Core.Bool.{false}
 use lib.ListN.{replicate}
 use Rattle.lists.specs.Laws.{All}
@@ -21,7 +21,7 @@ use Rattle.planner.specs.Model.{chunksFrom, spansOfAll, afters, waitingOf, term
 use Rattle.planner.specs.Passes.{countsWithin, timesWithin, waitingPass, passesOf}
 use Rattle.demands.specs.CallLists as call
 use Rattle.demands.specs.CallLists.{Call, handed}
-use Rattle.planner.specs.Calls.{hasNumber, ofNumber, without, Yes, Said, granted, refused, openFarm, offerOf, offerWith, offerAsked, offerSaid, offerFarm, withdrawSaid, withdrawFarm}
+use Rattle.planner.specs.Calls.{hasNumber, ofNumber, without, Yes, Quote, Said, granted, refused, openFarm, offerOf, offerWith, offerAsked, offerSaid, offerFarm, quoteSaid, withdrawSaid, withdrawFarm}
 use Rattle.planner.specs.Clock.{keep, raised, linesOfAll, issued, moveAsked, moveFarm}
 
 -- what comes of an offer: the answer, and the shares of the new job in the farm that is handed back (none where it is refused)
@@ -253,6 +253,28 @@ returnCases =
     ∷ behindBack 2 (call.move 0 (replicate 2 noChunk) ∷ []) (offerOf 2 1 27) (yes 2 22 26 1 (1 ∷ []))
     ∷ []
 
+-- Quotes, document 02 (iv): an offer of size 2 after jobs 1 and 2 of the printed listing, for which a producer has shopped with three quotes
+abbrev pub shopping : List Offer
+shopping = offerOf 2 2 24 ∷ offerOf 2 2 22 ∷ offerOf 2 2 21 ∷ []
+
+abbrev pub afterShopping : ℕ → Outcome → Row
+afterShopping d e = record {
+  nodes = 3;
+  costs = costsOf 1 2 0 0 0;
+  allowances = 30 ∷ 0 ∷ [];
+  before = listed ++ map call.quote shopping;
+  offer = offerOf 2 2 d;
+  expected = e;
+}
+
+-- what each of them is told, as in cases K, L and M
+abbrev pub quotesTold : List Said
+quotesTold = granted Quote (3 ∷ 18 ∷ 24 ∷ 1 ∷ []) ∷ granted Quote (3 ∷ 18 ∷ 22 ∷ 2 ∷ []) ∷ refused 8 ∷ []
+
+-- the offer then has the number and the booking that were quoted
+abbrev pub quoteCases : List Row
+quoteCases = afterShopping 22 (yes 3 18 22 2 (1 ∷ 1 ∷ [])) ∷ afterShopping 21 (no 8) ∷ []
+
 -- every row comes out as expected
 pub cases-right : All Right cases
 unfolding run made outcome openFarm offerAsked offerSaid offerFarm ofNumber passesOf countsWithin timesWithin waitingPass costsWithin allAtMost allAtLeast jobsPass jobPasses jobWithin jobKept sharesKept noneOf allDiffer fitAll spansOfAll chunksFrom afters keysBy plan booksAll noLater insertKey sortOnto nodeKeys ranked search bookingOf bookedAt bookOf finish sum first left capacity cut greedy earliest
@@ -272,6 +294,15 @@ withdraw-cases-right = (refl, (refl, (refl, (refl, (refl, (refl, (refl, tt))))))
 pub return-cases-right : All Right returnCases
 unfolding run made outcome openFarm offerAsked offerSaid offerFarm hasNumber ofNumber without withdrawSaid withdrawFarm keep raised linesOfAll moveAsked moveFarm passesOf countsWithin timesWithin waitingPass costsWithin allAtMost allAtLeast jobsPass jobPasses jobWithin jobKept sharesKept noneOf allDiffer fitAll spansOfAll chunksFrom afters keysBy plan booksAll noLater insertKey sortOnto nodeKeys ranked search bookingOf bookedAt bookOf finish sum first left capacity cut greedy earliest
 return-cases-right = (refl, (refl, (refl, (refl, (refl, (refl, (refl, (refl, (refl, (refl, tt))))))))))
+
+-- so do the three quotes, and every row after them
+pub quotes-told : map (quoteSaid (farmOf (afterListing 24 (no 8)))) shopping ≡ quotesTold
+unfolding quoteSaid run made outcome openFarm offerAsked offerSaid offerFarm hasNumber ofNumber without withdrawSaid withdrawFarm keep raised linesOfAll moveAsked moveFarm passesOf countsWithin timesWithin waitingPass costsWithin allAtMost allAtLeast jobsPass jobPasses jobWithin jobKept sharesKept noneOf allDiffer fitAll spansOfAll chunksFrom afters keysBy plan booksAll noLater insertKey sortOnto nodeKeys ranked search bookingOf bookedAt bookOf finish sum first left capacity cut greedy earliest
+quotes-told = refl
+
+pub quote-cases-right : All Right quoteCases
+unfolding run made outcome openFarm offerAsked offerSaid offerFarm hasNumber ofNumber without withdrawSaid withdrawFarm keep raised linesOfAll moveAsked moveFarm passesOf countsWithin timesWithin waitingPass costsWithin allAtMost allAtLeast jobsPass jobPasses jobWithin jobKept sharesKept noneOf allDiffer fitAll spansOfAll chunksFrom afters keysBy plan booksAll noLater insertKey sortOnto nodeKeys ranked search bookingOf bookedAt bookOf finish sum first left capacity cut greedy earliest
+quote-cases-right = (refl, (refl, tt))
 
 -- After that withdrawal a walk of the waiting jobs alone does not book them all, so that an offer walked behind them is refused with 8 however small it is.
 pub old-job-fails : booksAll (termsOf (farmOf oldJobFails)) (busyOf (farmOf oldJobFails)) (byDeadline (waitingOf (farmOf oldJobFails))) ≡ false

@@ -1,16 +1,20 @@
 -- Demand 1, a theorem a sentence:
 --   "The timetable memory lent to a call holds, after it, the lines of the answer at its front and its former
 --    contents everywhere else;"                                                       move-writes, shown-writes
---   "after a refusal it is unchanged throughout, and so is the farm."                  open-keeps, offer-keeps, withdraw-keeps, move-keeps, shown-keeps
+--   "after a refusal it is unchanged throughout, and so is the farm."                  open-keeps, offer-keeps, withdraw-keeps, move-keeps, shown-keeps, quote-keeps
 --   "This is so for all arguments and lengths, and every call ends,"                   the functions' contracts, which have no `requires`
---   "refused exactly where the papers name a refusal and granted otherwise."           open-asks, offer-asks, withdraw-asks, move-asks, shown-asks,
---                                                                                      account-asks
+--   "refused exactly where the papers name a refusal and granted otherwise."           open-asks, offer-asks, quote-asks, withdraw-asks, move-asks,
+--                                                                                      shown-asks, account-asks
+--   document 02 (iv): "A quote takes what an offer takes and gives the same answer, job number and refusals included, as
+--    offering to a copy of the farm. ... a quote given prints `quote` in place of `yes`."      quote-given, quote-refused
+--   "The farm stays the same."                                                               quote-keeps
 -- The contracts equate the functions of src/ with the definitions that these theorems speak of.
 use mathlib.Core.Path.{_≡_, refl, ap}
 use mathlib.Core.List.{List, [], _∷_, _++_}
 use mathlib.Core.Bool.{Bool, true, false, cond, _&&_}
 use Prim.Native.Nat.{ℕ, zero, suc, _+_, _-_}
 use native.Mathlib.Omega.{arith}
+use borrow.Author.Tests.{eqb-false}
 use lib.Dec.{leb, ltb, eqb}
 use lib.ListN.{length, drop}
 use Rattle.limits.specs.declared.FarmCosts.{FarmCosts}
@@ -19,8 +23,9 @@ use Rattle.planner.specs.declared.Farm.{Farm}
 use Rattle.planner.specs.declared.Offer.{Offer}
 use Rattle.planner.specs.Model.{greatest, between, costsWithin, waitingOf}
 use Rattle.planner.specs.Passes.{passesOf}
-use Rattle.planner.specs.Calls.{hasNumber, Open, Yes, Clock, Shown, Account, Gone, Said, granted, refused, showsWithin, openSaid, openFarm, unopened, openedWith, accountSaid, heldBy, allowanceOf, computeOf, planned, accepts, withPlan, ofNumber, yesOf, offerAsked, offerSaid, offerFarm, withdrawnFarm, withdrawSaid, withdrawFarm}
+use Rattle.planner.specs.Calls.{hasNumber, Open, Yes, Clock, Shown, Account, Gone, Quote, Said, granted, refused, showsWithin, openSaid, openFarm, unopened, openedWith, accountSaid, heldBy, allowanceOf, computeOf, planned, accepts, withPlan, ofNumber, yesOf, offerAsked, offerSaid, offerFarm, asQuote, quoteSaid, withdrawnFarm, withdrawSaid, withdrawFarm}
 use Rattle.planner.specs.Clock.{issued, movedFarm, moveAsked, moveSaid, moveFarm, moveMemory, shown, shownAsked, shownSaid, shownMemory}
+use Rattle.demands.specs.CallLists.{quote, handed}
 use Rattle.demands.specs.MoveAnswers.{move-is, move-stopped, shown-is, shown-stopped}
 
 -- ---- Refused exactly where the papers name a refusal
@@ -49,10 +54,14 @@ open-asks n c al = go (between 1 n 64) (costsWithin c) (showsWithin al)
     go true false d = refl
     go false b d = refl
 
+-- what an offer is asked, and a quote of it
+abbrev pub offerQuestions : Farm → Offer → List Put
+offerQuestions f o =
+    asks 11 (passesOf f) ∷ asks 4 (between 1 (o .show) (f .shows)) ∷ asks 5 (between 1 (o .size) 1_000_000) ∷ asks 2 (between 1 (computeOf f o) 1_000_000)
+    ∷ asks 6 (ltb (f .clock) (o .deadline) && leb (o .deadline) greatest) ∷ asks 7 (ltb (f .waiting) 128 && ltb (f .used) greatest) ∷ asks 8 (accepts f o) ∷ []
+
 -- An offer is refused with 11, 4, 5, 2, 6, 7 or 8, and granted otherwise.
-pub offer-asks : (f : Farm) (o : Offer)
-    → offerSaid f o .number
-    ≡ firstNo (asks 11 (passesOf f) ∷ asks 4 (between 1 (o .show) (f .shows)) ∷ asks 5 (between 1 (o .size) 1_000_000) ∷ asks 2 (between 1 (computeOf f o) 1_000_000) ∷ asks 6 (ltb (f .clock) (o .deadline) && leb (o .deadline) greatest) ∷ asks 7 (ltb (f .waiting) 128 && ltb (f .used) greatest) ∷ asks 8 (accepts f o) ∷ [])
+pub offer-asks : (f : Farm) (o : Offer) → offerSaid f o .number ≡ firstNo (offerQuestions f o)
 unfolding offerSaid offerAsked firstNo
 offer-asks f o =
     go (passesOf f) (between 1 (o .show) (f .shows)) (between 1 (o .size) 1_000_000) (between 1 (computeOf f o) 1_000_000) (ltb (f .clock) (o .deadline) && leb (o .deadline) greatest) (ltb (f .waiting) 128 && ltb (f .used) greatest) (accepts f o)
@@ -72,6 +81,11 @@ offer-asks f o =
     go true true false p e g h vs = refl
     go true false c p e g h vs = refl
     go false b c p e g h vs = refl
+
+-- A quote is refused with the same numbers at the same questions, and given otherwise.
+pub quote-asks : (f : Farm) (o : Offer) → quoteSaid f o .number ≡ firstNo (offerQuestions f o)
+unfolding quoteSaid
+quote-asks f o = offer-asks f o
 
 -- A withdrawal is refused with 11 or 12, and granted otherwise.
 pub withdraw-asks : (f : Farm) (n : ℕ) → withdrawSaid f n .number ≡ firstNo (asks 11 (passesOf f) ∷ asks 12 (hasNumber n (waitingOf f)) ∷ [])
@@ -145,6 +159,10 @@ offer-keeps f o k = go (eqb (offerAsked f o) 0) (accepts f o) (yesOf (f .costs) 
     go true false vs e = refl
     go false h vs e = refl
 
+-- A quote, given or refused, hands back the farm as it was.
+pub quote-keeps : (f : Farm) (o : Offer) → handed f (quote o) ≡ f
+quote-keeps f o = refl
+
 -- A refused withdrawal hands back the farm as it was.
 pub withdraw-keeps : (f : Farm) (n k : ℕ) → withdrawSaid f n .number ≡ suc k → withdrawFarm f n ≡ f
 unfolding withdrawSaid withdrawFarm
@@ -174,6 +192,34 @@ shown-keeps f m k = go (eqb (shownAsked f (length m)) 0)
         → cond {A = List Chunk} a (shown f ++ drop (length (shown f)) m) m ≡ m
     go true e = absurd (omega arith)
     go false e = refl
+
+-- ---- A quote says what an offer to a copy would be told
+
+module _ (f : Farm) (o : Offer) where
+  -- what an offer is told, by whether the questions before the walk are passed, whether the walk books all, and the values
+  abbrev told : Bool → Bool → List ℕ → Said
+  told a h vs = cond a (cond h (granted Yes vs) (refused 8)) (refused (offerAsked f o))
+
+  -- It is given where the offer would be accepted: `quote` in place of `yes`, with the same values, the job number among them.
+  pub quote-given : offerSaid f o .number ≡ 0 → (offerSaid f o ≡ granted Yes (offerSaid f o .values)) × (quoteSaid f o ≡ granted Quote (offerSaid f o .values))
+  unfolding quoteSaid offerSaid
+  quote-given = go (eqb (offerAsked f o) 0) refl (accepts f o) (yesOf (f .costs) (ofNumber (f .used + 1) (planned f o)) .values)
+    where
+      go : (a : Bool) → eqb (offerAsked f o) 0 ≡ a → (h : Bool) (vs : List ℕ) → told a h vs .number ≡ 0
+          → (told a h vs ≡ granted Yes (told a h vs .values)) × (asQuote (told a h vs) ≡ granted Quote (told a h vs .values))
+      go true q true vs e = (refl, refl)
+      go true q false vs e = absurd (omega arith)
+      go false q h vs e = absurd (eqb-false (offerAsked f o) 0 q e)
+
+  -- It is refused where the offer would be, with the same answer.
+  pub quote-refused : (k : ℕ) → offerSaid f o .number ≡ suc k → quoteSaid f o ≡ offerSaid f o
+  unfolding quoteSaid offerSaid
+  quote-refused k = go (eqb (offerAsked f o) 0) (accepts f o) (yesOf (f .costs) (ofNumber (f .used + 1) (planned f o)) .values)
+    where
+      go : (a h : Bool) (vs : List ℕ) → told a h vs .number ≡ suc k → asQuote (told a h vs) ≡ told a h vs
+      go true true vs e = absurd (omega arith)
+      go true false vs e = refl
+      go false h vs e = refl
 
 -- ---- A granted withdrawal takes its job out and changes nothing else
 

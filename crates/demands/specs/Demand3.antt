@@ -1,6 +1,6 @@
 -- Demand 3, its sentences beside the parts of the claim (`Demand3` below; `demand3` at the end is the theorem):
 --   "For every list of offers and clock moves, refused ones included, after a granted opening, each call given the farm
---    that the one before it handed back,"                                             demand3, over `run` (CallLists.antt), withdrawals among them
+--    that the one before it handed back,"                                             demand3, over `run` (CallLists.antt), withdrawals and quotes among them
 --   "no accepted job is late."                                                        each, due
 --   "Its chunks are issued, each once, all by the first granted clock move after its acceptance to reach the start it
 --    has at that move,"                                                               stories (`Lifecycle` in CallLists.antt)
@@ -20,6 +20,8 @@
 --   "A withdrawn job owes nothing and is issued nothing,"                             gone, stories (`withdrawn` of `Lifecycle`); its number is never used
 --                                                                                     again: numbers, once
 --   "and demand 3 covers all the others for every list of offers, withdrawals and clock moves."   each, due and the rest
+--   document 02 (iv): "An offer made next with the same fields gets what was quoted."   quoted
+--   "Quotes between other calls alter no later answer."                               others; nor anything that is noted: unquoted
 -- and document 01's readings under "Demand 3 over a list": clock, free, link, numbers, latest, accepted, walks; "A granted opening and the calls
 -- after it always hand back a farm that passes": passes; "shorter moves then get through, as no two jobs share a start": starts, next.
 use mathlib.Core.Path.{_≡_, refl, ap, sym, subst, _∙_}
@@ -51,17 +53,18 @@ use Rattle.planner.specs.CallsSteps.{walk-ready}
 use Rattle.planner.specs.OfferSteps.{offer-offered}
 use Rattle.soundness.specs.Sweep.{spans-all, spans-perm, apart-sym}
 use Rattle.demands.specs.QuestionEleven.{passes-iff}
-use Rattle.planner.specs.Calls.{ofNumber, without, Open, Said, granted, refused, showsWithin, openFarm, openSaid, heldBy, newJob, queueOf, planned, withPlan, withdrawnFarm}
+use Rattle.planner.specs.Calls.{ofNumber, without, Open, Said, granted, refused, showsWithin, openFarm, openSaid, heldBy, newJob, queueOf, planned, withPlan, asQuote, withdrawnFarm}
 use Rattle.demands.specs.OfferPasses.{waiting-planned}
 use Rattle.planner.specs.Clock.{begun, issued, moveAsked}
 use Rattle.demands.specs.Starts.{StartsDiffer, starts-differ, next-few, next-granted}
-use Rattle.demands.specs.CallLists.{Call, offer, quote, withdraw, move, handed, isGranted, linesBy, Accepted, jobsBy, History, opening, note, run, heldOf, upTo, linesFor, latestFinish, latestSent, acceptedOf, Fulfils, FromFirst, Waits, IssuesNone, Lifecycle}
+use Rattle.demands.specs.CallLists.{Call, offer, quote, withdraw, move, reply, handed, isGranted, linesBy, Accepted, jobsBy, History, opening, note, run, answersOf, withoutQuotes, otherAnswers, heldOf, upTo, linesFor, latestFinish, latestSent, acceptedOf, Fulfils, FromFirst, Waits, IssuesNone, Lifecycle}
 use Rattle.demands.specs.BegunJobs.{chunkOf}
 use Rattle.queue.specs.Numbers.{numberOfJob, of-number-has}
 use Rattle.demands.specs.WithdrawPasses.{leaves-others, withdrawn-waiting}
 use Rattle.demands.specs.MovePasses.{Waiting, waiting-jobs, booked-chain}
 use Rattle.demands.specs.Outcome.{taken, Takes, Leaves, Moves, outcome}
 use Rattle.demands.specs.Invariant.{idle, Whole, Inv, plan-accepted, whole-proper, open-inv, note-inv, run-inv}
+use Rattle.demands.specs.Quotes.{quote-next, run-without, answers-without}
 use Rattle.demands.specs.Lifecycles.{spans-named, none-of-jobs, lines-none, lines-own, whole-fulfils, spans-first, waits-as, NoLongerWaits, issues-no-more, begun-no-longer-waits, front-differ, none-before, Among, lifecycle}
 
 -- ---- The claim
@@ -152,6 +155,12 @@ pub record Demand3 (f : Farm) (cs : List Call) (w : History) : Type 0 where
   -- Each granted withdrawal takes that job out of those that wait, and changes nothing else.
   pub withdrawals : (before : List Call) (n : ℕ) (after : List Call) → Split cs before (withdraw n) after → isGranted (run (opening f) before .farm) (withdraw n) ≡ true
       → Withdrawal (run (opening f) before .farm) n
+  -- A quote says what an offer made next with the same fields is told, with `quote` in place of `yes`.
+  pub quoted : (before : List Call) (o : Offer) (after : List Call) → Split cs before (quote o) after
+      → reply (run (opening f) before .farm) (quote o) ≡ asQuote (reply (run (opening f) (before ++ quote o ∷ []) .farm) (offer o))
+  -- Without its quotes the list leaves the same farm, has issued the same chunks, and all else is noted as it is; and its other calls answer what they answer.
+  pub unquoted : run (opening f) (withoutQuotes cs) ≡ w
+  pub others : answersOf f (withoutQuotes cs) ≡ otherAnswers f cs
   -- No two waiting jobs share a start, so a move to the next start issues at most 64 lines, and is granted wherever 64 records are lent.
   pub starts : Pairs StartsDiffer (waitingOf (w .farm))
   pub next : (j : Job) → List·Memᴰ j (waitingOf (w .farm)) → All (λ (k : Job). j .booking .start ≤ k .booking .start) (waitingOf (w .farm))
@@ -444,6 +453,9 @@ demand3 n c al e cs =
       accepted = all-of (waitingOf (w .farm)) (λ j m. past-number w i j (mem-right (i .past) m));
       walks = λ before x after h g. offer-walked (run (opening f) before) x (run-inv (opening f) before o) g;
       withdrawals = λ before n after h g. call-withdrawal (run (opening f) before .farm) n (run-inv (opening f) before o .sized) g;
+      quoted = λ before o after h. quote-next (opening f) before o;
+      unquoted = run-without (opening f) cs;
+      others = answers-without f cs;
       starts = starts-differ (w .farm) (i .sized) (i .passes);
       next = λ j m h. (next-few (w .farm) (i .sized) (i .passes) j m h, next-granted (w .farm) (i .sized) (i .passes) j m h);
       passes = i .passes;

@@ -12,6 +12,7 @@ pub mod WithdrawPasses
 pub mod Starts
 pub mod Outcome
 pub mod Invariant
+pub mod Quotes
 pub mod Lifecycles
 pub mod Demand1
 pub mod Demand2
