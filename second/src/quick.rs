@@ -14,7 +14,7 @@ use crate::job::{Begun, Booking, Chunk, Job, Plan, Walk, Walked};
 use crate::node::{FreeNode, MovingRanking};
 use crate::share::Windows;
 
-/// The quick walk under way; its memory is kept from offer to offer.
+/// The quick walk under way; its memory is kept from walk to walk.
 #[derive(Clone, Debug, Default)]
 pub struct Quick {
     /// No start precedes this: the clock or the link's free time.

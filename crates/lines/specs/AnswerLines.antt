@@ -41,6 +41,7 @@ line-text (answer.Clock t n) = refl
 line-text (answer.Shown n) = refl
 line-text (answer.Account s h c) = refl
 line-text (answer.Gone j) = refl
+line-text (answer.Quote j s t k) = refl
 line-text (answer.No q) = rw (no-number q)
 
 pub line-count : (a : Answer) → lineWith (said a) .count ≤ 7
@@ -51,6 +52,7 @@ line-count (answer.Clock t n) = omega arith
 line-count (answer.Shown n) = omega arith
 line-count (answer.Account s h c) = omega arith
 line-count (answer.Gone j) = omega arith
+line-count (answer.Quote j s t k) = omega arith
 line-count (answer.No q) = rw (no-number q) (omega arith)
 
 -- ---- The chunk lines of a clock move

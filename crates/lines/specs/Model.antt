@@ -11,7 +11,7 @@ use Rattle.planner.specs.declared.Farm.{Farm}
 use Rattle.planner.specs.declared.ComputeCost.{ComputeCost}
 use Rattle.planner.specs.declared.ComputeCost.the-variants.{Absent, Given}
 use Rattle.planner.specs.declared.Offer.{Offer}
-use Rattle.planner.specs.Calls.{Said, openSaid, openFarm, offerSaid, offerFarm, accountSaid, withdrawSaid, withdrawFarm}
+use Rattle.planner.specs.Calls.{Said, openSaid, openFarm, offerSaid, offerFarm, quoteSaid, accountSaid, withdrawSaid, withdrawFarm}
 use Rattle.planner.specs.Clock.{moveSaid, moveFarm, moveLines}
 use Rattle.text.specs.Model.{newline}
 use Rattle.reading.specs.declared.Kind.{Kind}
@@ -36,6 +36,7 @@ printedAs calls.Clock = word.Clock
 printedAs calls.Shown = word.Chunk
 printedAs calls.Account = word.Account
 printedAs calls.Gone = word.Gone
+printedAs calls.Quote = word.Quote
 printedAs calls.No = word.No
 
 -- an answer: its word and values where all questions were answered yes
@@ -100,6 +101,10 @@ accountLine f s = record { farm = f; text = answerText (accountSaid f s) }
 unfoldable pub withdrawLine : Farm → ℕ → Answered
 withdrawLine f n = record { farm = withdrawFarm f n; text = answerText (withdrawSaid f n) }
 
+-- `quote`, with the fields of `job`
+unfoldable pub quoteLine : Farm → Offer → Answered
+quoteLine f o = record { farm = f; text = answerText (quoteSaid f o) }
+
 -- a line of a kind is in its turn: `farm` before an opened farm, the others after it
 abbrev pub inTurn : Kind → Bool → Bool
 inTurn kind.Farm opened = not opened
@@ -107,6 +112,7 @@ inTurn kind.Job opened = opened
 inTurn kind.Clock opened = opened
 inTurn kind.Account opened = opened
 inTurn kind.Withdraw opened = opened
+inTurn kind.Quote opened = opened
 inTurn kind.Unreadable opened = false
 
 -- the call that a line in its turn is, by its kind, its n numbers and a farm's allowances
@@ -116,6 +122,7 @@ called f kind.Job n ns al = jobLine f (offerIn n ns)
 called f kind.Clock n ns al = clockLine f (getD ns 0 0)
 called f kind.Account n ns al = accountLine f (getD ns 0 0)
 called f kind.Withdraw n ns al = withdrawLine f (getD ns 0 0)
+called f kind.Quote n ns al = quoteLine f (offerIn n ns)
 called f kind.Unreadable n ns al = unread f
 
 -- a call out of its turn cannot be read

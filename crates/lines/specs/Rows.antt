@@ -17,7 +17,7 @@ use Rattle.reading.specs.declared.Kind.{Kind}
 use Rattle.reading.specs.declared.Kind.the-variants as kind
 use Rattle.reading.specs.Model.{fields, othersOf, fits, lineKind, readable, allNumbers, numbersOf, rowWith, rowOf}
 use Rattle.lines.specs.declared.Rest.{Rest}
-use Rattle.lines.specs.Model.{Answered, unread, allowancesOf, farmLine, offerIn, jobLine, clockLine, accountLine, withdrawLine, inTurn, ifInTurn, called, recorded, answered, longest, Pending, part, long, ended}
+use Rattle.lines.specs.Model.{Answered, unread, allowancesOf, farmLine, offerIn, jobLine, clockLine, accountLine, withdrawLine, quoteLine, inTurn, ifInTurn, called, recorded, answered, longest, Pending, part, long, ended}
 
 -- ---- Rows
 
@@ -117,6 +117,7 @@ row-called f kind.Job ns = ap (jobLine f) (offer-same ns)
 row-called f kind.Clock ns = ap (clockLine f) (kept-at 39 ns 0 (omega arith))
 row-called f kind.Account ns = ap (accountLine f) (kept-at 39 ns 0 (omega arith))
 row-called f kind.Withdraw ns = ap (withdrawLine f) (kept-at 39 ns 0 (omega arith))
+row-called f kind.Quote ns = ap (quoteLine f) (offer-same ns)
 row-called f kind.Unreadable ns = refl
 
 pub row-recorded : (f : Farm) (k : Kind) (ns : List ℕ) → byRow f (rowWith k ns) ≡ recorded f k ns

@@ -79,6 +79,16 @@ fn line_of(answer: Answer) -> Line
             count: 1,
             numbers: [job, 0, 0, 0, 0, 0, 0],
         },
+        Answer::Quote {
+            job,
+            start,
+            finish,
+            nodes,
+        } => Line {
+            word: Word::Quote,
+            count: 4,
+            numbers: [job, start, finish, nodes, 0, 0, 0],
+        },
         Answer::No(question) => Line {
             word: Word::No,
             count: 1,

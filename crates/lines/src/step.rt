@@ -1,4 +1,4 @@
-// Whether a line is in its turn, and the opening or the offer that a row is.
+// Whether a line is in its turn, and the opening or the offer that a row is. A quote has the offer of its row.
 ghost use mathlib.Core.Bool.{cond};
 ghost use mathlib.Core.Path.{_≡_};
 ghost use Prim.Native.Nat.{_≤_};
@@ -65,6 +65,7 @@ pub fn in_turn(kind: Kind, opened: bool) -> bool
         Kind::Clock => opened,
         Kind::Account => opened,
         Kind::Withdraw => opened,
+        Kind::Quote => opened,
         Kind::Unreadable => false,
     }
 }

@@ -33,7 +33,7 @@ decimal n = digits (suc (reached n powers)) n
 
 -- ---- Words
 
--- the bytes of each word: open, yes, chunk, clock, account, gone and no
+-- the bytes of each word: open, yes, chunk, clock, account, gone, quote and no
 abbrev pub wordOf : Word → List ℕ
 wordOf word.Open = 111 ∷ 112 ∷ 101 ∷ 110 ∷ []
 wordOf word.Yes = 121 ∷ 101 ∷ 115 ∷ []
@@ -41,6 +41,7 @@ wordOf word.Chunk = 99 ∷ 104 ∷ 117 ∷ 110 ∷ 107 ∷ []
 wordOf word.Clock = 99 ∷ 108 ∷ 111 ∷ 99 ∷ 107 ∷ []
 wordOf word.Account = 97 ∷ 99 ∷ 99 ∷ 111 ∷ 117 ∷ 110 ∷ 116 ∷ []
 wordOf word.Gone = 103 ∷ 111 ∷ 110 ∷ 101 ∷ []
+wordOf word.Quote = 113 ∷ 117 ∷ 111 ∷ 116 ∷ 101 ∷ []
 wordOf word.No = 110 ∷ 111 ∷ []
 
 -- ---- A line

@@ -15,6 +15,7 @@ pub enum Word {
     Clock,
     Account,
     Gone,
+    Quote,
     No,
 }
 
@@ -74,6 +75,7 @@ fn spelling_of(word: Word) -> Spelling
         Word::Clock => Spelling(5, *b"clock\0\0"),
         Word::Account => Spelling(7, *b"account"),
         Word::Gone => Spelling(4, *b"gone\0\0\0"),
+        Word::Quote => Spelling(5, *b"quote\0\0"),
         Word::No => Spelling(2, *b"no\0\0\0\0\0"),
     }
 }

@@ -157,6 +157,7 @@ kind-word kind.Job = refl
 kind-word kind.Clock = refl
 kind-word kind.Account = refl
 kind-word kind.Withdraw = refl
+kind-word kind.Quote = refl
 kind-word kind.Unreadable = refl
 
 -- ---- Examples

@@ -61,18 +61,19 @@ allNumbers (f ∷ fs) = isNumber f && allNumbers fs
 
 -- ---- Kinds
 
--- the word of each kind: farm, job, clock, account and withdraw; a line that cannot be read has none
+-- the word of each kind: farm, job, clock, account, withdraw and quote; a line that cannot be read has none
 abbrev pub wordOf : Kind → List ℕ
 wordOf kind.Farm = 102 ∷ 97 ∷ 114 ∷ 109 ∷ []
 wordOf kind.Job = 106 ∷ 111 ∷ 98 ∷ []
 wordOf kind.Clock = 99 ∷ 108 ∷ 111 ∷ 99 ∷ 107 ∷ []
 wordOf kind.Account = 97 ∷ 99 ∷ 99 ∷ 111 ∷ 117 ∷ 110 ∷ 116 ∷ []
 wordOf kind.Withdraw = 119 ∷ 105 ∷ 116 ∷ 104 ∷ 100 ∷ 114 ∷ 97 ∷ 119 ∷ []
+wordOf kind.Quote = 113 ∷ 117 ∷ 111 ∷ 116 ∷ 101 ∷ []
 wordOf kind.Unreadable = []
 
 -- the kinds that a word names
 abbrev pub kinds : List Kind
-kinds = kind.Farm ∷ kind.Job ∷ kind.Clock ∷ kind.Account ∷ kind.Withdraw ∷ []
+kinds = kind.Farm ∷ kind.Job ∷ kind.Clock ∷ kind.Account ∷ kind.Withdraw ∷ kind.Quote ∷ []
 
 -- the one among these kinds whose word it is
 unfoldable pub kindAmong : List Kind → List ℕ → Kind
@@ -82,14 +83,18 @@ kindAmong (k ∷ ks) w = cond (same w (wordOf k)) k (kindAmong ks w)
 unfoldable pub kindOf : List ℕ → Kind
 kindOf w = kindAmong kinds w
 
--- how many numbers follow: nodes and five costs for a farm, then its allowances; show, size and deadline for a job, then its compute cost if it is
--- given; a time; a show; a job
+-- show, size and deadline, then a compute cost if it is given
+abbrev pub fitsOffer : ℕ → Bool
+fitsOffer n = leb 3 n && leb n 4
+
+-- how many numbers follow: nodes and five costs for a farm, then its allowances; what is offered for a job and for a quote; a time; a show; a job
 abbrev pub fits : Kind → ℕ → Bool
 fits kind.Farm n = leb 6 n
-fits kind.Job n = leb 3 n && leb n 4
+fits kind.Job n = fitsOffer n
 fits kind.Clock n = eqb n 1
 fits kind.Account n = eqb n 1
 fits kind.Withdraw n = eqb n 1
+fits kind.Quote n = fitsOffer n
 fits kind.Unreadable n = false
 
 -- ---- A line

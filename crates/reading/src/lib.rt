@@ -17,6 +17,7 @@ pub enum Kind {
     Clock,
     Account,
     Withdraw,
+    Quote,
     Unreadable,
 }
 
@@ -94,7 +95,8 @@ fn kind_if(word: &[u8], text: &[u8], kind: Kind, other: Kind) -> Kind
 fn kind_of(word: &[u8]) -> Kind
     ensures { λ r. ⌜ r ≡ kindOf (now (word .entry)) ⌝ }
 {
-    let withdraw = kind_if(word, b"withdraw", Kind::Withdraw, Kind::Unreadable);
+    let quote = kind_if(word, b"quote", Kind::Quote, Kind::Unreadable);
+    let withdraw = kind_if(word, b"withdraw", Kind::Withdraw, quote);
     let account = kind_if(word, b"account", Kind::Account, withdraw);
     let clock = kind_if(word, b"clock", Kind::Clock, account);
     let job = kind_if(word, b"job", Kind::Job, clock);
@@ -111,6 +113,7 @@ fn fitting(kind: Kind, count: usize) -> bool
         Kind::Clock => count == 1,
         Kind::Account => count == 1,
         Kind::Withdraw => count == 1,
+        Kind::Quote => 3 <= count && count <= 4,
         Kind::Unreadable => false,
     }
 }

@@ -1,5 +1,5 @@
 //! `second`: answers a day of lines from standard input.
-//! `second --whole`: the same with every waiting job booked again at each offer.
+//! `second --whole`: the same, every waiting job booked again at each offer and quote.
 //! `second --exhaustive`: the same by trying everything, for tiny days.
 
 use second::exhaustive::Exhaustive;

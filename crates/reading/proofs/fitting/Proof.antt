@@ -22,6 +22,9 @@ enum-told-5 c = search needs
 enum-told-6 : tie.Need-enum-told-6
 enum-told-6 c = search needs
 
+enum-told-7 : tie.Need-enum-told-7
+enum-told-7 c = search needs
+
 returns : tie.Need-returns
 returns c = rw (c .enum-told .given .1)
 
@@ -41,7 +44,13 @@ returns-6 : tie.Need-returns-6
 returns-6 c = rw (c .enum-told5 .given .1)
 
 returns-7 : tie.Need-returns-7
-returns-7 c = search needs
+returns-7 c = rw (c .before .enum-told6 .given .1, le-leb 3 _ (c .if2 .taken))
+
+returns-8 : tie.Need-returns-8
+returns-8 c = rw (c .before .enum-told6 .given .1, lt-leb 3 _ (c .if2 .left))
+
+returns-9 : tie.Need-returns-9
+returns-9 c = search needs
 
 pub fitting-spec : {M : Type 1} → statement M
 fitting-spec =
@@ -53,10 +62,13 @@ fitting-spec =
     enum-told-4
     enum-told-5
     enum-told-6
+    enum-told-7
     returns
     returns-2
     returns-3
     returns-4
     returns-5
     returns-6
-    returns-7)
+    returns-7
+    returns-8
+    returns-9)

@@ -26,6 +26,9 @@ enum-known-answer-6 c = search needs
 enum-known-answer-7 : tie.Need-enum-known-answer-7
 enum-known-answer-7 c = search needs
 
+enum-known-answer-8 : tie.Need-enum-known-answer-8
+enum-known-answer-8 c = search needs
+
 number-of-requires : tie.Need-number-of-requires
 number-of-requires c κs = search needs
 
@@ -55,7 +58,11 @@ returns-6 c = rw (c .before .answer6 .given .1)
 
 returns-7 : tie.Need-returns-7
 unfolding lineWith
-returns-7 c = rw (c .before .before .answer7 .given .1, no-number (c .before .before .answer7 .given .0 .0), c .number-of .ensures)
+returns-7 c = rw (c .before .answer7 .given .1)
+
+returns-8 : tie.Need-returns-8
+unfolding lineWith
+returns-8 c = rw (c .before .before .answer8 .given .1, no-number (c .before .before .answer8 .given .0 .0), c .number-of .ensures)
 
 pub line-of-spec : {M : Type 1} → statement M
 line-of-spec =
@@ -68,6 +75,7 @@ line-of-spec =
     enum-known-answer-5
     enum-known-answer-6
     enum-known-answer-7
+    enum-known-answer-8
     number-of-requires
     returns
     returns-2
@@ -75,4 +83,5 @@ line-of-spec =
     returns-4
     returns-5
     returns-6
-    returns-7)
+    returns-7
+    returns-8)
