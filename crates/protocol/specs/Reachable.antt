@@ -20,7 +20,7 @@ use Rattle.text.specs.Model.{newline}
 use Rattle.reading.specs.declared.Kind.{Kind}
 use Rattle.reading.specs.declared.Kind.the-variants as kind
 use Rattle.reading.specs.Model.{lineKind, readable, numbersOf}
-use Rattle.lines.specs.Model.{Answered, unread, costsIn, farmLine, offerIn, jobLine, lent, clockLine, accountLine, withdrawLine, inTurn, called, recorded, longest, answered, Pending, part, long, ended, kept, Fed, behind, feed}
+use Rattle.lines.specs.Model.{Answered, unread, costsIn, farmLine, offerIn, jobLine, lent, clockLine, accountLine, withdrawLine, quoteLine, inTurn, called, recorded, longest, answered, Pending, part, long, ended, kept, Fed, behind, feed}
 
 -- not opened, or reached by an opening and calls
 abbrev pub Reachable : Farm → Type 0
@@ -62,12 +62,13 @@ withdraw-reachable : (f : Farm) (n : ℕ) → Reachable f → Reachable (withdra
 withdraw-reachable f n r = call-reachable f (withdraw n) r
 
 called-reachable : (f : Farm) (k : Kind) (n : ℕ) (ns al : List ℕ) → Reachable f → Reachable (called f k n ns al .farm)
-unfolding called farmLine jobLine clockLine accountLine withdrawLine
+unfolding called farmLine jobLine clockLine accountLine withdrawLine quoteLine
 called-reachable f kind.Farm n ns al r = opening-reachable (getD ns 0 0) (costsIn ns) al
 called-reachable f kind.Job n ns al r = offer-reachable f (offerIn n ns) r
 called-reachable f kind.Clock n ns al r = move-reachable f (getD ns 0 0) lent r
 called-reachable f kind.Account n ns al r = r
 called-reachable f kind.Withdraw n ns al r = withdraw-reachable f (getD ns 0 0) r
+called-reachable f kind.Quote n ns al r = r
 called-reachable f kind.Unreadable n ns al r = r
 
 choice-reachable : (b : Bool) (x y : Answered) → Reachable (x .farm) → Reachable (y .farm) → Reachable (cond b x y .farm)

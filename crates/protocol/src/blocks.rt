@@ -147,6 +147,9 @@ pub fn answer_block(
                         farm.jobs = jobs;
                     }
                 }
+                Kind::Quote => {
+                    at = put_answer(out, at, farm.quote_unchecked(offered(row)));
+                }
                 Kind::Unreadable => {
                     at = put_unread(out, at);
                 }

@@ -15,9 +15,10 @@ use Rattle.planner.specs.declared.Offer.{Offer}
 use Rattle.planner.specs.declared.Move.{Move}
 use Rattle.planner.specs.Model.{Sized}
 use Rattle.planner.specs.Passes.{passesOf}
+use Rattle.planner.specs.Calls.{quoteSaid}
 use Rattle.planner.specs.OfferSteps.{Decides}
 use Rattle.planner.specs.ClockSteps.{Begins, MoveDecides, move-refused, move-taken, none-due-yet}
-use Rattle.lines.specs.Model.{Answered, answerText, inTurn, farmLine, jobLine, clockLine, accountLine, withdrawLine, called, lent}
+use Rattle.lines.specs.Model.{Answered, answerText, inTurn, farmLine, jobLine, clockLine, accountLine, withdrawLine, quoteLine, called, lent}
 use Rattle.lines.specs.Rows.{FarmRow, pendingOf, byRow, allowancesIn, rest-row, row-farm, row-turn, row-unread}
 use Rattle.protocol.specs.Reachable.{Reachable, reachable-passes, reachable-sized}
 use Rattle.protocol.specs.CallSteps.{clock-plain, rows-asked, rows-fit, clock-text}
@@ -392,17 +393,40 @@ loop-again-10 c =
 enum-told-6 : tie.Need-enum-told-6 Inv-loop μ-loop
 enum-told-6 c = search needs
 
+offered-requires-2 : tie.Need-offered-requires-2 Inv-loop μ-loop
+offered-requires-2 c κs = search needs
+
+quote-unchecked-requires : tie.Need-quote-unchecked-requires Inv-loop μ-loop
+quote-unchecked-requires c κs = let n = c .before .before .before .before in passes n (kind-turn n (c .before .before .enum-told6 .given .1))
+
+put-answer-requires-7 : tie.Need-put-answer-requires-7 Inv-loop μ-loop
+put-answer-requires-7 c κs = omega (arith, room (turn (c .before .before .before .before .before)))
+
+loop-less-11 : tie.Need-loop-less-11 Inv-loop μ-loop
+loop-less-11 c = less (turn (c .before .before .before .before .before .before .before .before))
+
+loop-again-11 : tie.Need-loop-again-11 Inv-loop μ-loop
+unfolding called quoteLine
+loop-again-11 c =
+    let n = c .before .before .before .before .before .before .before .before in
+    let q = c .before .before .before .quote-unchecked .ensures in
+    let said = q ∙ ap (quoteSaid (farm (turn n))) (c .before .before .before .before .offered2 .ensures) in
+    answers (turn n) (by-kind n (c .before .before .before .before .before .before .enum-told6 .given .1)) refl (within-same (ap answerText said) (c .before .before .put-answer7 .ensures)) (omega arith)
+
+enum-told-7 : tie.Need-enum-told-7 Inv-loop μ-loop
+enum-told-7 c = search needs
+
 put-unread-requires-2 : tie.Need-put-unread-requires-2 Inv-loop μ-loop
 put-unread-requires-2 c κs = omega (arith, room (turn (c .before .before .before)))
 
-loop-less-11 : tie.Need-loop-less-11 Inv-loop μ-loop
-loop-less-11 c = less (turn (c .before .before .before .before .before .before))
+loop-less-12 : tie.Need-loop-less-12 Inv-loop μ-loop
+loop-less-12 c = less (turn (c .before .before .before .before .before .before))
 
-loop-again-11 : tie.Need-loop-again-11 Inv-loop μ-loop
+loop-again-12 : tie.Need-loop-again-12 Inv-loop μ-loop
 unfolding called
-loop-again-11 c =
+loop-again-12 c =
     let n = c .before .before .before .before .before .before in
-    answers (turn n) (by-kind n (c .before .before .before .before .enum-told6 .given .1)) refl (c .before .before .put-unread2 .ensures) (omega arith)
+    answers (turn n) (by-kind n (c .before .before .before .before .enum-told7 .given .1)) refl (c .before .before .put-unread2 .ensures) (omega arith)
 
 same-length-3 : tie.Need-same-length-3 Inv-loop μ-loop
 same-length-3 c = search needs
@@ -478,8 +502,14 @@ answer-block-spec =
     loop-less-10
     loop-again-10
     enum-told-6
-    put-unread-requires-2
+    offered-requires-2
+    quote-unchecked-requires
+    put-answer-requires-7
     loop-less-11
     loop-again-11
+    enum-told-7
+    put-unread-requires-2
+    loop-less-12
+    loop-again-12
     same-length-3
     returns-4)
