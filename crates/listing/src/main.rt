@@ -1,5 +1,5 @@
-// The day of document 01's listing, by calls on the farm and with no line read: the opening, its two granted offers, a third that is withdrawn again, the
-// timetable shown, the clock move and both accounts. Prints an answer a line, its fields parted by tabs; the lines of a timetable come before its answer.
+// The day of document 01's listing, by calls on the farm and with no line read: the opening, its two granted offers, a third that is quoted first and withdrawn again,
+// the timetable shown, the clock move and both accounts. Prints an answer a line, its fields parted by tabs; the lines of a timetable come before its answer.
 use limits::FarmCosts;
 use planner::Answer;
 use planner::ComputeCost;
@@ -48,6 +48,12 @@ fn put_answer(answer: Answer) {
             charged,
         } => put(b"account", &[show, held, charged]),
         Answer::Gone { job } => put(b"gone", &[job]),
+        Answer::Quote {
+            job,
+            start,
+            finish,
+            nodes,
+        } => put(b"quote", &[job, start, finish, nodes]),
         Answer::No(_) => put(b"no", &[0; 0]),
     }
 }
@@ -99,7 +105,8 @@ fn main() {
     let opened = put_reply(Farm::open(3, costs, &[30, 0]));
     let one = put_reply(opened.offer(offered(1, 10, 18)));
     let two = put_reply(one.offer(offered(2, 3, 20)));
-    let three = put_reply(two.offer(offered(2, 2, 24)));
+    let quoted = put_reply(two.quote(offered(2, 2, 24)));
+    let three = put_reply(quoted.offer(offered(2, 2, 24)));
     let left = put_reply(three.withdraw(3));
     let shown = put_table(left.show_by_value([UNUSED; 1024]));
     let moved = put_table(shown.clock_by_value(10, [UNUSED; 1024]));

@@ -16,30 +16,31 @@ use Rattle.walk.specs.declared.Chunk.{Chunk}
 use Rattle.walk.specs.Model.{noChunk}
 use Rattle.planner.specs.declared.Farm.{Farm}
 use Rattle.planner.specs.declared.Offer.{Offer}
-use Rattle.planner.specs.Calls.{hasNumber, ofNumber, Word, Open, Yes, Clock, Shown, Account, Gone, No, Said, granted, refused, unopened, showsWithin, openSaid, heldBy, allowanceOf, accountSaid, computeOr, planned, accepts, yesOf, offerAsked, offerSaid, withdrawSaid}
+use Rattle.planner.specs.Calls.{hasNumber, ofNumber, Word, Open, Yes, Clock, Shown, Account, Gone, Quote, No, Said, granted, refused, unopened, showsWithin, openSaid, heldBy, allowanceOf, accountSaid, computeOr, planned, accepts, yesOf, offerAsked, offerSaid, quoteWord, quoteSaid, withdrawSaid}
 use Rattle.planner.specs.Model.{between, costsWithin, waitingOf}
 use Rattle.planner.specs.Passes.{passesOf}
 use Rattle.planner.specs.Clock.{issued, moveAsked, moveSaid, moveFarm, moveMemory, moveLines}
 use Rattle.reading.specs.declared.Kind.{Kind}
 use Rattle.reading.specs.declared.Kind.the-variants as kind
 use Rattle.reading.specs.Model.{lineKind, readable, numbersOf}
-use Rattle.lines.specs.Model.{refusal, answerText, chunkText, chunkTexts, Answered, unread, costsIn, allowancesOf, farmLine, computeIn, offerIn, jobLine, lent, clockLine, accountLine, withdrawLine, inTurn, called, recorded, longest, answered}
+use Rattle.lines.specs.Model.{refusal, answerText, chunkText, chunkTexts, Answered, unread, costsIn, allowancesOf, farmLine, computeIn, offerIn, jobLine, lent, clockLine, accountLine, withdrawLine, quoteLine, inTurn, called, recorded, longest, answered}
 use Rattle.demands.specs.Kept.{run-keeps}
-use Rattle.demands.specs.CallLists.{Call, offer, withdraw, move, withStart, linesBy, Accepted, jobsBy, goneBy, History, opening, note, run}
+use Rattle.demands.specs.CallLists.{Call, offer, quote, withdraw, move, withStart, linesBy, Accepted, jobsBy, goneBy, History, opening, note, run}
 use Rattle.demands.specs.BegunJobs.{chunkOf}
-use Rattle.demands.specs.Invariant.{run-append}
+use Rattle.demands.specs.Invariant.{quote-note, run-append}
 use Rattle.printed.specs.Model.{answers}
 
 -- ---- The calls that lines are
 
--- the call that a line of a kind and its numbers is once a farm is opened: a `job` line an offer, a `clock` line a move, a `withdraw` line a withdrawal, the
--- others none
+-- the call that a line of a kind and its numbers is once a farm is opened: a `job` line an offer, a `quote` line a quote, a `clock` line a move, a `withdraw`
+-- line a withdrawal, the others none
 abbrev pub callOf : Kind → List ℕ → List Call
 callOf kind.Farm ns = []
 callOf kind.Job ns = offer (offerIn (length ns) ns) ∷ []
 callOf kind.Clock ns = move (getD ns 0 0) (replicate lent noChunk) ∷ []
 callOf kind.Account ns = []
 callOf kind.Withdraw ns = withdraw (getD ns 0 0) ∷ []
+callOf kind.Quote ns = quote (offerIn (length ns) ns) ∷ []
 callOf kind.Unreadable ns = []
 
 -- the call that a line is: none where it is too long or cannot be read
@@ -78,6 +79,7 @@ calledPrints f kind.Job ns al = answer (offerSaid f (offerIn (length ns) ns)) �
 calledPrints f kind.Clock ns al = map chunk (moveLines f (getD ns 0 0) lent) ++ answer (moveSaid f (getD ns 0 0) lent) ∷ []
 calledPrints f kind.Account ns al = answer (accountSaid f (getD ns 0 0)) ∷ []
 calledPrints f kind.Withdraw ns al = answer (withdrawSaid f (getD ns 0 0)) ∷ []
+calledPrints f kind.Quote ns al = answer (quoteSaid f (offerIn (length ns) ns)) ∷ []
 calledPrints f kind.Unreadable ns al = answer (refused 11) ∷ []
 
 -- `no 11`
@@ -124,6 +126,7 @@ goneAs Clock vs = []
 goneAs Shown vs = []
 goneAs Account vs = []
 goneAs Gone vs = getD vs 0 0 ∷ []
+goneAs Quote vs = []
 goneAs No vs = []
 
 abbrev pub goneIn : List Print → List ℕ
@@ -138,6 +141,7 @@ acceptedAs p ns Clock vs = []
 acceptedAs p ns Shown vs = []
 acceptedAs p ns Account vs = []
 acceptedAs p ns Gone vs = []
+acceptedAs p ns Quote vs = []
 acceptedAs p ns No vs = []
 
 abbrev pub acceptedOn : Farm → List ℕ → Print → List Accepted
@@ -155,7 +159,7 @@ acceptedIn f ls = readIn acceptedOn f ls
 -- ---- The farm
 
 kind-farm : (w : History) (k : Kind) (ns : List ℕ) → w .farm .opened ≡ true → recorded (w .farm) k ns .farm ≡ run w (callOf k ns) .farm
-unfolding recorded called jobLine clockLine accountLine withdrawLine run
+unfolding recorded called jobLine clockLine accountLine withdrawLine quoteLine run
 kind-farm w kind.Farm ns o = ap (λ (b : Bool). cond {A = Answered} (not b) (farmLine ns (allowancesOf ns)) (unread (w .farm)) .farm) o
 kind-farm w kind.Job ns o = ap (λ (b : Bool). cond {A = Answered} b (jobLine (w .farm) (offerIn (length ns) ns)) (unread (w .farm)) .farm) o
 kind-farm w kind.Clock ns o =
@@ -163,6 +167,7 @@ kind-farm w kind.Clock ns o =
     ∙ ap (moveFarm (w .farm) (getD ns 0 0)) (sym (length-replicate {A = Chunk} lent noChunk))
 kind-farm w kind.Account ns o = ap (λ (b : Bool). cond {A = Answered} b (accountLine (w .farm) (getD ns 0 0)) (unread (w .farm)) .farm) o
 kind-farm w kind.Withdraw ns o = ap (λ (b : Bool). cond {A = Answered} b (withdrawLine (w .farm) (getD ns 0 0)) (unread (w .farm)) .farm) o
+kind-farm w kind.Quote ns o = ap (λ (b : Bool). cond {A = Answered} b (quoteLine (w .farm) (offerIn (length ns) ns)) (unread (w .farm)) .farm) o
 kind-farm w kind.Unreadable ns o = refl
 
 line-farm : (w : History) (l : List ℕ) → w .farm .opened ≡ true → answered (w .farm) l .farm ≡ run w (lineCall l) .farm
@@ -208,7 +213,7 @@ unfolding answerText
 unread-text = texts-one (refused 11)
 
 called-text : (f : Farm) (k : Kind) (ns al : List ℕ) → printTexts (calledPrints f k ns al) ≡ called f k (length ns) ns al .text
-unfolding called calledPrints farmLine jobLine clockLine accountLine withdrawLine
+unfolding called calledPrints farmLine jobLine clockLine accountLine withdrawLine quoteLine
 called-text f kind.Farm ns al = texts-one (openSaid (getD ns 0 0) (costsIn ns) al)
 called-text f kind.Job ns al = texts-one (offerSaid f (offerIn (length ns) ns))
 called-text f kind.Clock ns al =
@@ -218,6 +223,7 @@ called-text f kind.Clock ns al =
     ∙ ap (λ (l : List ℕ). chunkTexts (moveLines f t lent) ++ l) (texts-one (moveSaid f t lent))
 called-text f kind.Account ns al = texts-one (accountSaid f (getD ns 0 0))
 called-text f kind.Withdraw ns al = texts-one (withdrawSaid f (getD ns 0 0))
+called-text f kind.Quote ns al = texts-one (quoteSaid f (offerIn (length ns) ns))
 called-text f kind.Unreadable ns al = unread-text
 
 recorded-text : (f : Farm) (k : Kind) (ns : List ℕ) → printTexts (recordedPrints f k ns) ≡ recorded f k ns .text
@@ -297,6 +303,7 @@ module _ {A : Type 0} (r : Farm → List ℕ → Print → List A) (noted : Hist
       go kind.Clock = in-turn kind.Clock o
       go kind.Account = in-turn kind.Account o
       go kind.Withdraw = in-turn kind.Withdraw o
+      go kind.Quote = in-turn kind.Quote o
       go kind.Unreadable = out-of-turn kind.Unreadable refl
 
   line-read : (w : History) (l : List ℕ) → w .farm .opened ≡ true → noted w ++ collect (r (w .farm) (numbersOf l)) (linePrints (w .farm) l) ≡ noted (run w (lineCall l))
@@ -340,6 +347,7 @@ module _ {A : Type 0} (r : Farm → List ℕ → Print → List A) (noted : Hist
       opened kind.Clock = unread-none unopened ns
       opened kind.Account = unread-none unopened ns
       opened kind.Withdraw = unread-none unopened ns
+      opened kind.Quote = unread-none unopened ns
       opened kind.Unreadable = unread-none unopened ns
 
       go : (a b : Bool) → collect (r unopened ns) (cond a (cond b (recordedPrints unopened (lineKind l) ns) unreadPrints) unreadPrints) ≡ []
@@ -375,6 +383,10 @@ offer-speaks f o = go (eqb (offerAsked f o) 0) (accepts f o) (yesOf (f .costs) (
     go true true vs = inl refl
     go true false vs = inr refl
     go false b vs = inr refl
+
+quote-speaks : (f : Farm) (o : Offer) → Speaks (quoteSaid f o) Quote
+unfolding quoteSaid
+quote-speaks f o = ⊎-elim (λ e. inl (ap quoteWord e)) (λ e. inr (ap quoteWord e)) (offer-speaks f o)
 
 move-speaks : (f : Farm) (t n : ℕ) → Speaks (moveSaid f t n) Clock
 unfolding moveSaid
@@ -442,6 +454,7 @@ chunks-reading = record { unread = λ f ns. refl; opens = λ f ns n c al. refl; 
         ∙ sym (map-join chunkOf (w .lines) (linesBy f (move t m)))
     calls w kind.Account ns al = append-nil (map chunkOf (w .lines))
     calls w kind.Withdraw ns al = none w
+    calls w kind.Quote ns al = none w
     calls w kind.Unreadable ns al = append-nil (map chunkOf (w .lines))
 
 -- ---- Accepted and withdrawn jobs
@@ -452,11 +465,12 @@ unfolding collect
 told-after g [] s = append-nil (g (s .word) (s .values))
 told-after g (x ∷ xs) s = told-after g xs s
 
--- what is told of openings, accounts, clock moves and refusals is nothing, and what is told of offers and withdrawals is what is noted of them
+-- what is told of openings, quotes, accounts, clock moves and refusals is nothing, and what is told of offers and withdrawals is what is noted of them
 pub record Tells {A : Type 0} (g : Farm → List ℕ → Word → List ℕ → List A) (noted : History → List A) : Type 0 where
   pub opened : (f : Farm) (ns vs : List ℕ) → g f ns Open vs ≡ []
   pub clock : (f : Farm) (ns vs : List ℕ) → g f ns Clock vs ≡ []
   pub account : (f : Farm) (ns vs : List ℕ) → g f ns Account vs ≡ []
+  pub quote : (f : Farm) (ns vs : List ℕ) → g f ns Quote vs ≡ []
   pub no : (f : Farm) (ns vs : List ℕ) → g f ns No vs ≡ []
   pub starts : (f : Farm) → noted (opening f) ≡ []
   pub offers : (w : History) (ns : List ℕ) → noted w ++ told (g (w .farm) ns) (answer (offerSaid (w .farm) (offerIn (length ns) ns))) ≡ noted (note w (offer (offerIn (length ns) ns)))
@@ -488,6 +502,9 @@ tells-reading {A} g noted x = record {
         ∙ x .moves w (getD ns 0 0) (replicate lent noChunk)
     calls w kind.Account ns al = one w ns (accountSaid (w .farm) (getD ns 0 0)) Account (account-speaks (w .farm) (getD ns 0 0)) (x .account (w .farm) ns)
     calls w kind.Withdraw ns al = ap (λ (l : List A). noted w ++ l) (append-nil _) ∙ x .withdrawals w ns
+    calls w kind.Quote ns al =
+        let o = offerIn (length ns) ns in
+        one w ns (quoteSaid (w .farm) o) Quote (quote-speaks (w .farm) o) (x .quote (w .farm) ns) ∙ ap noted (sym (quote-note w o))
     calls w kind.Unreadable ns al = none w (told (g (w .farm) ns) (answer (refused 11)) ++ []) (append-nil (told (g (w .farm) ns) (answer (refused 11))) ∙ x .no (w .farm) ns [])
 
 offer-accepted : (f : Farm) (ns : List ℕ) → acceptedOn f ns (answer (offerSaid f (offerIn (length ns) ns))) ≡ jobsBy f (offer (offerIn (length ns) ns))
@@ -517,6 +534,7 @@ accepted-reading = tells-reading (λ f ns. acceptedAs (f .costs .compute) ns) (�
   opened = λ f ns vs. refl;
   clock = λ f ns vs. refl;
   account = λ f ns vs. refl;
+  quote = λ f ns vs. refl;
   no = λ f ns vs. refl;
   starts = λ f. refl;
   offers = λ w ns. ap (λ (l : List Accepted). w .jobs ++ l) (offer-accepted (w .farm) ns);
@@ -531,6 +549,7 @@ gone-reading = tells-reading (λ f ns. goneAs) (λ (w : History). w .gone) (reco
   opened = λ f ns vs. refl;
   clock = λ f ns vs. refl;
   account = λ f ns vs. refl;
+  quote = λ f ns vs. refl;
   no = λ f ns vs. refl;
   starts = λ f. refl;
   offers = λ w ns. ap (λ (l : List ℕ). w .gone ++ l) (speaks-none goneAs (offerSaid (w .farm) (offerIn (length ns) ns)) Yes (offer-speaks (w .farm) (offerIn (length ns) ns)) (λ vs. refl) (λ vs. refl));

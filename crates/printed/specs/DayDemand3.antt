@@ -1,7 +1,8 @@
 -- Demand 3 of what a day prints. A day's lines are those that leave the farm unopened, then the first granted `farm` line, then any others. Demand 3 holds of
 -- the calls that those others are; the jobs told `yes` are the jobs that these calls accept, those told `gone` the jobs that they withdraw, the `chunk` lines
 -- printed the chunks that they issue; and each `account` line says as held ticks the sum over the `chunk` lines of its show printed before it, and as charged ticks what is above
--- the allowance on the `farm` line. The definitions come first; `day-demand3` and `printed-day` at the end are the theorems.
+-- the allowance on the `farm` line; and a `job` line behind a `quote` line with the same numbers is told what was quoted. Leaving the `quote` lines out of a day leaves the
+-- answer of every other line as it was. The definitions come first; `day-demand3` and `printed-day` at the end are the theorems.
 use mathlib.Core.Path.{_≡_, refl, ap, sym, subst, _∙_}
 use mathlib.Core.List.{List, [], _∷_, _++_, map, append-assoc, List·Memᴰ}
 use mathlib.Core.Bool.{Bool, true, false, cond, _&&_, false≢true}
@@ -17,18 +18,19 @@ use Rattle.limits.specs.Says.{between-is}
 use Rattle.walk.specs.declared.Chunk.{Chunk}
 use Rattle.planner.specs.declared.Farm.{Farm}
 use Rattle.planner.specs.Model.{between, Between, costsWithin, Span}
-use Rattle.planner.specs.Calls.{Said, Open, Account, granted, refused, showsWithin, openSaid, openFarm, openedWith, unopened, accountSaid, heldBy, allowanceOf}
+use Rattle.planner.specs.Calls.{Said, Open, Account, granted, refused, showsWithin, openSaid, openFarm, openedWith, unopened, accountSaid, heldBy, allowanceOf, offerSaid, asQuote, quoteSaid}
 use Rattle.planner.specs.Clock.{holds}
 use Rattle.reading.specs.declared.Kind.{Kind}
 use Rattle.reading.specs.declared.Kind.the-variants as kind
 use Rattle.reading.specs.Model.{lineKind, readable, numbersOf}
-use Rattle.lines.specs.Model.{Answered, unread, costsIn, allowancesOf, farmLine, accountLine, inTurn, called, recorded, longest, answered}
+use Rattle.lines.specs.Model.{Answered, unread, costsIn, allowancesOf, farmLine, offerIn, accountLine, inTurn, called, recorded, longest, answered}
 use Rattle.demands.specs.CallLists.{Call, Accepted, History, opening, run, heldOf, linesFor, FromFirst}
 use Rattle.demands.specs.BegunJobs.{chunkOf}
 use Rattle.demands.specs.Demand1.{open-keeps}
 use Rattle.demands.specs.Kept.{run-keeps}
 use Rattle.demands.specs.Demand3.{Issued, Booked, Withdrawn, Demand3, demand3}
-use Rattle.printed.specs.Model.{linesIn, answers, dayText}
+use Rattle.printed.specs.Model.{linesIn, answers, dayText, answersOf, texts, otherKind, withoutQuotes, otherAnswers}
+use Rattle.printed.specs.QuoteLines.{answers-texts, quote-farm, answers-without}
 use Rattle.printed.specs.DayCalls.{callsIn, farmAfter, Print, answer, printTexts, calledPrints, unreadPrints, recordedPrints, linePrints, prints, collect, chunkIn, chunksIn, told, goneAs, goneIn, acceptedOn, acceptedIn, readIn, Reading, farm-after, answers-text, collect-prints, read-lines, read-unopened, chunks-reading, accepted-reading, gone-reading}
 
 -- ---- Lines
@@ -74,6 +76,14 @@ heldIn s xs = heldAmong s xs xs
 abbrev pub accountOf : List ℕ → ℕ → List Chunk → Said
 accountOf al s xs = cond (between 1 s (length al)) (granted Account (s ∷ heldIn s xs ∷ (heldIn s xs - getD al (s - 1) 0) ∷ [])) (refused 4)
 
+-- ---- A quote and its offer
+
+-- one answer s that the line j is told behind the line q, which is told the same as a quote
+pub record QuotedAs (f : Farm) (q j : List ℕ) : Type 0 where
+  pub told : Said
+  pub first : linePrints f q ≡ answer (asQuote told) ∷ []
+  pub next : linePrints (answered f q .farm) j ≡ answer told ∷ []
+
 -- ---- The claim
 
 -- of the lines before the one that opens the farm, that one, and those after it
@@ -99,6 +109,9 @@ pub record DayDemand3 (before : List (List ℕ)) (l : List ℕ) (after : List (L
       ≡ prints unopened (before ++ l ∷ part)
       ++ answer (accountOf (allowancesOn l) (getD (numbersOf a) 0 0) (chunksIn (prints unopened (before ++ l ∷ part))))
       ∷ prints (farmAfter unopened (before ++ l ∷ part)) rest
+  -- A `job` line right behind a `quote` line with the same numbers prints what was quoted, `yes` in place of `quote`.
+  pub quoted : (part : List (List ℕ)) (q j : List ℕ) (rest : List (List ℕ)) → after ≡ part ++ q ∷ j ∷ rest → Reads q kind.Quote → Reads j kind.Job → numbersOf q ≡ numbersOf j
+      → QuotedAs (farmAfter unopened (before ++ l ∷ part)) q j
 
 -- of all lines of a day: none opens a farm, no `chunk` line is printed, no job accepted and none withdrawn; or one opens it first, and demand 3 holds
 pub data Day (ls : List (List ℕ)) : Type 0 where
@@ -198,6 +211,26 @@ account-farm f a h = ap (λ (x : Answered). x .farm) (answered-read f a kind.Acc
     go true = refl
     go false = refl
 
+quote-prints : (f : Farm) (q : List ℕ) → f .opened ≡ true → Reads q kind.Quote → linePrints f q ≡ answer (quoteSaid f (offerIn (length (numbersOf q)) (numbersOf q))) ∷ []
+unfolding recordedPrints calledPrints
+quote-prints f q o h =
+    prints-read f q kind.Quote h ∙ ap (λ (b : Bool). cond b (answer (quoteSaid f (offerIn (length (numbersOf q)) (numbersOf q))) ∷ []) unreadPrints) o
+
+job-prints : (f : Farm) (j : List ℕ) → f .opened ≡ true → Reads j kind.Job → linePrints f j ≡ answer (offerSaid f (offerIn (length (numbersOf j)) (numbersOf j))) ∷ []
+unfolding recordedPrints calledPrints
+job-prints f j o h =
+    prints-read f j kind.Job h ∙ ap (λ (b : Bool). cond b (answer (offerSaid f (offerIn (length (numbersOf j)) (numbersOf j))) ∷ []) unreadPrints) o
+
+quoted-as : (f : Farm) (q j : List ℕ) → f .opened ≡ true → Reads q kind.Quote → Reads j kind.Job → numbersOf q ≡ numbersOf j → QuotedAs f q j
+unfolding quoteSaid
+quoted-as f q j o h k e =
+    let same : answered f q .farm ≡ f = quote-farm f q (ap otherKind (h .is)) in
+    record {
+      told = offerSaid f (offerIn (length (numbersOf j)) (numbersOf j));
+      first = quote-prints f q o h ∙ ap (λ (ns : List ℕ). answer (asQuote (offerSaid f (offerIn (length ns) ns))) ∷ []) e;
+      next = ap (λ (g : Farm). linePrints g j) same ∙ job-prints f j o k;
+    }
+
 -- ---- The opening
 
 granted-opens : (n : ℕ) (c : FarmCosts) (al : List ℕ) → openSaid n c al .number ≡ 0 → openFarm n c al ≡ openedWith n c al
@@ -270,6 +303,7 @@ stays-or-opens l = short (leb (length l) longest) (readable l) refl refl
     kinds kind.Clock h = inl (other-stays l kind.Clock h refl)
     kinds kind.Account h = inl (other-stays l kind.Account h refl)
     kinds kind.Withdraw h = inl (other-stays l kind.Withdraw h refl)
+    kinds kind.Quote h = inl (other-stays l kind.Quote h refl)
     kinds kind.Unreadable h = inl (other-stays l kind.Unreadable h refl)
 
     short : (a b : Bool) → leb (length l) longest ≡ a → readable l ≡ b → Stays l ⊎ Opens l
@@ -401,6 +435,9 @@ module _ (before : List (List ℕ)) (l : List ℕ) (h : All Stays before) (o : O
           ∙ ap (λ (n : ℕ). granted Account (s ∷ heldIn s (map chunkOf (w .lines)) ∷ (heldIn s (map chunkOf (w .lines)) - n) ∷ [])) (allowance e)
       go false e = refl
 
+  lines-opened : (part : List (List ℕ)) → farmAfter unopened (before ++ l ∷ part) .opened ≡ true
+  lines-opened part = ap (λ (f : Farm). f .opened) (lines-farm part) ∙ run-keeps (opening (farmOn l)) (callsIn part) .opened ∙ opens-opened l o
+
   lines-accounts : (part : List (List ℕ)) (a : List ℕ) (rest : List (List ℕ)) → Reads a kind.Account
       → prints unopened (before ++ l ∷ (part ++ a ∷ rest))
       ≡ prints unopened (before ++ l ∷ part)
@@ -416,12 +453,9 @@ module _ (before : List (List ℕ)) (l : List ℕ) (h : All Stays before) (o : O
       s : ℕ
       s = getD (numbersOf a) 0 0
 
-      opened : g .opened ≡ true
-      opened = ap (λ (f : Farm). f .opened) (lines-farm part) ∙ run-keeps (opening (farmOn l)) (callsIn part) .opened ∙ opens-opened l o
-
       said : linePrints g a ≡ answer (accountOf (allowancesOn l) s (chunksIn (prints unopened (before ++ l ∷ part)))) ∷ []
       said =
-          account-prints g a opened r
+          account-prints g a (lines-opened part) r
           ∙ ap (λ (x : Said). answer x ∷ [])
           (ap (λ (f : Farm). accountSaid f s) (lines-farm part) ∙ lines-account part s ∙ ap (accountOf (allowancesOn l) s) (sym (lines-chunks part)))
 
@@ -443,6 +477,7 @@ day-demand3 before l after h o = record {
   gone = lines-collect before l h o (told goneAs) (λ (w : History). w .gone) gone-reading after;
   demand = lines-demand before l h o after;
   accounts = λ part a rest e r. ap (λ (xs : List (List ℕ)). prints unopened (before ++ l ∷ xs)) e ∙ lines-accounts before l h o part a rest r;
+  quoted = λ part q j rest e r k n. quoted-as (farmAfter unopened (before ++ l ∷ part)) q j (lines-opened before l h o part) r k n;
 }
 
 further : (l : List ℕ) (ls : List (List ℕ)) → Stays l → Day ls → Day (l ∷ ls)
@@ -454,6 +489,23 @@ pub lines-day : (ls : List (List ℕ)) → Day ls
 lines-day [] = never-opens [] tt
 lines-day (l ∷ ls) = ⊎-elim (λ s. further l ls s (lines-day ls)) (λ o. opens [] l ls refl tt o (day-demand3 [] l ls tt o)) (stays-or-opens l)
 
--- **Demand 3 of every input**: what the program prints for it is the texts of its printed lines, of which `Day` holds.
-pub printed-day : (bs : List ℕ) → (dayText bs ≡ printTexts (prints unopened (linesIn bs))) × Day (linesIn bs)
-printed-day bs = (answers-text unopened (linesIn bs), lines-day (linesIn bs))
+-- of an input
+pub record PrintedDay (bs : List ℕ) : Type 0 where
+  -- What the program prints for it is the texts of its printed lines, of which `Day` holds.
+  pub text : dayText bs ≡ printTexts (prints unopened (linesIn bs))
+  pub day : Day (linesIn bs)
+  -- It is the answers of its lines, one after the other. Without the `quote` lines every other line is answered what it is answered among them,
+  pub each : dayText bs ≡ texts (answersOf unopened (linesIn bs))
+  pub others : answersOf unopened (withoutQuotes (linesIn bs)) ≡ otherAnswers unopened (linesIn bs)
+  -- and an input of the other lines alone prints these answers.
+  pub rest : (cs : List ℕ) → linesIn cs ≡ withoutQuotes (linesIn bs) → dayText cs ≡ texts (otherAnswers unopened (linesIn bs))
+
+-- **Demand 3 of every input.**
+pub printed-day : (bs : List ℕ) → PrintedDay bs
+printed-day bs = record {
+  text = answers-text unopened (linesIn bs);
+  day = lines-day (linesIn bs);
+  each = answers-texts unopened (linesIn bs);
+  others = answers-without unopened (linesIn bs);
+  rest = λ cs e. ap (answers unopened) e ∙ answers-texts unopened (withoutQuotes (linesIn bs)) ∙ ap texts (answers-without unopened (linesIn bs));
+}

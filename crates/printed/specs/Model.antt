@@ -2,12 +2,15 @@
 -- crate lines.
 use Prim.Native.Nat.{ℕ}
 use mathlib.Core.List.{List, [], _∷_, _++_}
-use mathlib.Core.Bool.{cond}
+use mathlib.Core.Bool.{Bool, true, false, cond}
 use lib.Dec.{eqb}
+use Rattle.lists.specs.Keep.{keep, answersTo}
 use Rattle.planner.specs.declared.Farm.{Farm}
 use Rattle.planner.specs.Calls.{unopened}
 use Rattle.text.specs.Model.{newline}
-use Rattle.reading.specs.Model.{onFirst}
+use Rattle.reading.specs.declared.Kind.{Kind}
+use Rattle.reading.specs.declared.Kind.the-variants as kind
+use Rattle.reading.specs.Model.{onFirst, lineKind}
 use Rattle.lines.specs.Model.{answered}
 
 -- the lines of the input: each ends with a newline, which the last one may lack
@@ -23,3 +26,34 @@ answers f (l ∷ ls) = answered f l .text ++ answers (answered f l .farm) ls
 -- what is printed for a whole input, from an unopened farm
 abbrev pub dayText : List ℕ → List ℕ
 dayText bs = answers unopened (linesIn bs)
+
+-- ---- Without the `quote` lines
+
+-- each line with its answer
+abbrev pub answersOf : Farm → List (List ℕ) → List (List ℕ × List ℕ)
+answersOf f ls = answersTo (λ (g : Farm) (l : List ℕ). answered g l .farm) (λ (g : Farm) (l : List ℕ). answered g l .text) f ls
+
+-- such answers, one after the other
+unfoldable pub texts : List (List ℕ × List ℕ) → List ℕ
+texts [] = []
+texts (a ∷ rest) = a .1 ++ texts rest
+
+-- whether its first field is another than `quote`
+abbrev pub otherKind : Kind → Bool
+otherKind kind.Farm = true
+otherKind kind.Job = true
+otherKind kind.Clock = true
+otherKind kind.Account = true
+otherKind kind.Withdraw = true
+otherKind kind.Quote = false
+otherKind kind.Unreadable = true
+
+abbrev pub noQuote : List ℕ → Bool
+noQuote l = otherKind (lineKind l)
+
+-- the lines without those that begin with `quote`, and what the others are answered among them
+abbrev pub withoutQuotes : List (List ℕ) → List (List ℕ)
+withoutQuotes ls = keep noQuote ls
+
+abbrev pub otherAnswers : Farm → List (List ℕ) → List (List ℕ × List ℕ)
+otherAnswers f ls = keep (λ (a : List ℕ × List ℕ). noQuote (a .0)) (answersOf f ls)
