@@ -1,5 +1,5 @@
--- Cases A to M of document 01, "Windows to try", cases of a job's own compute cost, of a withdrawal, of the way back and of quotes, each a table and a theorem about
--- the model.
+-- Cases A to M of document 01, "Windows to try", cases of a job's own compute cost, of a withdrawal, of the way back and of quotes, each a table and a theorem
+-- about the model.
 -- The checker works each row out.
 use Prim.Native.Nat.{ℕ, _+_}
 use mathlib.Core.Path.{_≡_, refl}
@@ -91,16 +91,20 @@ alone n c z w e = record {
 abbrev pub listed : List Call
 listed = call.offer (offerOf 1 10 18) ∷ call.offer (offerOf 2 3 20) ∷ []
 
--- an offer of size 2 after them, at clock 0
-abbrev pub afterListing : ℕ → Outcome → Row
-afterListing d e = record {
+-- an offer of size 2 after them and these calls
+abbrev pub afterListed : List Call → ℕ → Outcome → Row
+afterListed cs d e = record {
   nodes = 3;
   costs = costsOf 1 2 0 0 0;
   allowances = 30 ∷ 0 ∷ [];
-  before = listed;
+  before = listed ++ cs;
   offer = offerOf 2 2 d;
   expected = e;
 }
+
+-- right after them, at clock 0
+abbrev pub afterListing : ℕ → Outcome → Row
+afterListing d e = afterListed [] d e
 
 abbrev pub cases : List Row
 cases =
@@ -171,14 +175,7 @@ ownCases =
 
 -- A withdrawal, document 02 (ii): the offer of size 2 after jobs 1 and 2 of the printed listing, one of which was withdrawn, ..
 abbrev pub listedWithout : ℕ → ℕ → Outcome → Row
-listedWithout n d e = record {
-  nodes = 3;
-  costs = costsOf 1 2 0 0 0;
-  allowances = 30 ∷ 0 ∷ [];
-  before = listed ++ call.withdraw n ∷ [];
-  offer = offerOf 2 2 d;
-  expected = e;
-}
+listedWithout n d e = afterListed (call.withdraw n ∷ []) d e
 
 -- .. and one unit by tick 40, after three jobs on two nodes and these calls
 abbrev pub lateUnit : List Call → Outcome → Row
@@ -253,27 +250,20 @@ returnCases =
     ∷ behindBack 2 (call.move 0 (replicate 2 noChunk) ∷ []) (offerOf 2 1 27) (yes 2 22 26 1 (1 ∷ []))
     ∷ []
 
--- Quotes, document 02 (iv): an offer of size 2 after jobs 1 and 2 of the printed listing, for which a producer has shopped with three quotes
-abbrev pub shopping : List Offer
-shopping = offerOf 2 2 24 ∷ offerOf 2 2 22 ∷ offerOf 2 2 21 ∷ []
+-- Quotes, document 02 (iv): cases K, L and M asked as quotes, one after the other, ..
+abbrev pub quoted : List Offer
+quoted = offerOf 2 2 24 ∷ offerOf 2 2 22 ∷ offerOf 2 2 21 ∷ []
 
-abbrev pub afterShopping : ℕ → Outcome → Row
-afterShopping d e = record {
-  nodes = 3;
-  costs = costsOf 1 2 0 0 0;
-  allowances = 30 ∷ 0 ∷ [];
-  before = listed ++ map call.quote shopping;
-  offer = offerOf 2 2 d;
-  expected = e;
-}
-
--- what each of them is told, as in cases K, L and M
 abbrev pub quotesTold : List Said
 quotesTold = granted Quote (3 ∷ 18 ∷ 24 ∷ 1 ∷ []) ∷ granted Quote (3 ∷ 18 ∷ 22 ∷ 2 ∷ []) ∷ refused 8 ∷ []
 
--- the offer then has the number and the booking that were quoted
+-- .. and offers after them, which have the number and the booking that were quoted
 abbrev pub quoteCases : List Row
-quoteCases = afterShopping 22 (yes 3 18 22 2 (1 ∷ 1 ∷ [])) ∷ afterShopping 21 (no 8) ∷ []
+quoteCases =
+    afterListed (map call.quote quoted) 24 (yes 3 18 24 1 (2 ∷ []))
+    ∷ afterListed (map call.quote quoted) 22 (yes 3 18 22 2 (1 ∷ 1 ∷ []))
+    ∷ afterListed (map call.quote quoted) 21 (no 8)
+    ∷ []
 
 -- every row comes out as expected
 pub cases-right : All Right cases
@@ -296,13 +286,13 @@ unfolding run made outcome openFarm offerAsked offerSaid offerFarm hasNumber ofN
 return-cases-right = (refl, (refl, (refl, (refl, (refl, (refl, (refl, (refl, (refl, (refl, tt))))))))))
 
 -- so do the three quotes, and every row after them
-pub quotes-told : map (quoteSaid (farmOf (afterListing 24 (no 8)))) shopping ≡ quotesTold
+pub quotes-told : map (quoteSaid (made (openFarm 3 (costsOf 1 2 0 0 0) (30 ∷ 0 ∷ [])) listed)) quoted ≡ quotesTold
 unfolding quoteSaid run made outcome openFarm offerAsked offerSaid offerFarm hasNumber ofNumber without withdrawSaid withdrawFarm keep raised linesOfAll moveAsked moveFarm passesOf countsWithin timesWithin waitingPass costsWithin allAtMost allAtLeast jobsPass jobPasses jobWithin jobKept sharesKept noneOf allDiffer fitAll spansOfAll chunksFrom afters keysBy plan booksAll noLater insertKey sortOnto nodeKeys ranked search bookingOf bookedAt bookOf finish sum first left capacity cut greedy earliest
 quotes-told = refl
 
 pub quote-cases-right : All Right quoteCases
 unfolding run made outcome openFarm offerAsked offerSaid offerFarm hasNumber ofNumber without withdrawSaid withdrawFarm keep raised linesOfAll moveAsked moveFarm passesOf countsWithin timesWithin waitingPass costsWithin allAtMost allAtLeast jobsPass jobPasses jobWithin jobKept sharesKept noneOf allDiffer fitAll spansOfAll chunksFrom afters keysBy plan booksAll noLater insertKey sortOnto nodeKeys ranked search bookingOf bookedAt bookOf finish sum first left capacity cut greedy earliest
-quote-cases-right = (refl, (refl, tt))
+quote-cases-right = (refl, (refl, (refl, tt)))
 
 -- After that withdrawal a walk of the waiting jobs alone does not book them all, so that an offer walked behind them is refused with 8 however small it is.
 pub old-job-fails : booksAll (termsOf (farmOf oldJobFails)) (busyOf (farmOf oldJobFails)) (byDeadline (waitingOf (farmOf oldJobFails))) ≡ false

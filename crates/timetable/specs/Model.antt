@@ -1,7 +1,7 @@
 -- What a clock move begins, issues and adds to held ticks, over lists of jobs. Everything here is a definition; nothing is assumed.
 use Prim.Native.Nat.{ℕ, _+_, _-_}
 use mathlib.Core.List.{List, [], _∷_, _++_}
-use mathlib.Core.Bool.{Bool, cond, not}
+use mathlib.Core.Bool.{Bool, not}
 use lib.Dec.{leb}
 use lib.ListN.{getD, set}
 use Rattle.limits.specs.declared.FarmCosts.{FarmCosts}
