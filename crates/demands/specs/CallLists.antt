@@ -14,7 +14,7 @@ use Rattle.shares.specs.Model.{sendEnd, chunkFinish}
 use Rattle.walk.specs.declared.Job.{Job}
 use Rattle.walk.specs.declared.Chunk.{Chunk}
 use Rattle.planner.specs.declared.Farm.{Farm}
-use Rattle.planner.specs.declared.Offer.{Offer}
+use Rattle.answers.specs.declared.Offer.{Offer}
 use Rattle.planner.specs.Model.{costsFor, Span, linesOf, spansOf, waitingOf}
 use Rattle.planner.specs.Calls.{Said, ofNumber, computeOf, planned, offerSaid, offerFarm, quoteSaid, withdrawSaid, withdrawFarm}
 use Rattle.planner.specs.Clock.{holds, moveSaid, moveFarm, moveMemory}

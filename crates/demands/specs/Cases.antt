@@ -15,7 +15,7 @@ use Rattle.booking.specs.Model.{nodeKeys, ranked, search, bookingOf, bookedAt, 
 use Rattle.soundness.specs.Model.{noneOf, allDiffer, jobWithin, sharesKept, jobKept, jobPasses, jobsPass}
 use Rattle.walk.specs.Model.{noChunk}
 use Rattle.planner.specs.declared.Farm.{Farm}
-use Rattle.planner.specs.declared.Offer.{Offer}
+use Rattle.answers.specs.declared.Offer.{Offer}
 use Rattle.limits.specs.Model.{allAtMost, allAtLeast, costsWithin}
 use Rattle.planner.specs.Model.{chunksFrom, spansOfAll, afters, waitingOf, termsOf, busyOf, byDeadline, keysBy, plan, booksAll, fitAll}
 use Rattle.planner.specs.Passes.{countsWithin, timesWithin, waitingPass, passesOf}

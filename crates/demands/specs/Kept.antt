@@ -7,7 +7,7 @@ use lib.ListN.{length, getD}
 use Rattle.lists.specs.Laws.{All, all-join}
 use Rattle.limits.specs.declared.FarmCosts.{FarmCosts}
 use Rattle.planner.specs.declared.Farm.{Farm}
-use Rattle.planner.specs.declared.ComputeCost.the-variants.{Absent}
+use Rattle.answers.specs.declared.ComputeCost.the-variants.{Absent}
 use Rattle.planner.specs.Model.{costsFor, defaultCosts, waitingOf}
 use Rattle.planner.specs.Passes.{passesOf}
 use Rattle.planner.specs.Calls.{hasNumber, computeOr, computeOf, planned, accepts, withPlan, offerAsked, offerSaid, offerFarm, withdrawnFarm, withdrawFarm}

@@ -18,7 +18,7 @@ use Rattle.booking.specs.Booked.{some-share}
 use Rattle.walk.specs.declared.Job.{Job}
 use Rattle.walk.specs.declared.Busy.{Busy}
 use Rattle.planner.specs.declared.Farm.{Farm}
-use Rattle.planner.specs.declared.Offer.{Offer}
+use Rattle.answers.specs.declared.Offer.{Offer}
 use Rattle.planner.specs.Model.{greatest, between, allAtMost, costsWithin, emptyJob, ownCosts, spansOfAll, JobSized, Sized, after, waitingOf, busyOf, termsOf, requestOf, step, Apart, Between}
 use Rattle.planner.specs.Passes.{figuresOf, passesOf, JobWithin, JobSound, Within, Passes}
 use Rattle.planner.specs.Calls.{unopened, openedWith, showsWithin, openFarm, newJob, queueOf, planned, accepts, withPlan, offerAsked, offerFarm, OfferGranted}

@@ -11,7 +11,7 @@ use lib.ListN.{length}
 use Rattle.limits.specs.Says.{says-between}
 use Rattle.walk.specs.BestWalk.{BestAll, Fails, walk-is}
 use Rattle.planner.specs.declared.Farm.{Farm}
-use Rattle.planner.specs.declared.Offer.{Offer}
+use Rattle.answers.specs.declared.Offer.{Offer}
 use Rattle.planner.specs.Model.{greatest, termsOf, busyOf}
 use Rattle.planner.specs.Calls.{refused, offerOf, offerWith, computeOf, newJob, queueOf, planned, accepts, withPlan, offerAsked, offerSaid, offerFarm, OfferGranted}
 use Rattle.planner.specs.CallsSteps.{asked-all, walk-ready}

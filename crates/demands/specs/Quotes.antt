@@ -4,7 +4,7 @@ use mathlib.Core.List.{List, [], _∷_, _++_}
 use mathlib.Core.Bool.{true, false, false≢true}
 use Rattle.lists.specs.Keep.{keep, answers-keep}
 use Rattle.planner.specs.declared.Farm.{Farm}
-use Rattle.planner.specs.declared.Offer.{Offer}
+use Rattle.answers.specs.declared.Offer.{Offer}
 use Rattle.planner.specs.Calls.{offerSaid, asQuote, quoteSaid}
 use Rattle.demands.specs.CallLists.{Call, offer, quote, withdraw, move, reply, handed, History, note, run, answersOf, noQuote, withoutQuotes, otherAnswers}
 use Rattle.demands.specs.Invariant.{quote-note, run-append}

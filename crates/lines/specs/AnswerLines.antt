@@ -10,10 +10,10 @@ use lib.ListN.{length, getD, take, length-map}
 use lib.Seq.{take-at, take-suc}
 use Rattle.walk.specs.declared.Chunk.{Chunk}
 use Rattle.timetable.specs.Model.{rowOf}
-use Rattle.planner.specs.declared.Answer.{Answer}
-use Rattle.planner.specs.declared.Answer.the-variants as answer
+use Rattle.answers.specs.declared.Answer.{Answer}
+use Rattle.answers.specs.declared.Answer.the-variants as answer
 use Rattle.planner.specs.Calls.{Said, said}
-use Rattle.planner.specs.CallsSteps.{no-number}
+use Rattle.answers.specs.Steps.{no-number}
 use Rattle.text.specs.Model.{padded}
 use Rattle.text.specs.Writing.{WroteWithin, wrote-same, wrote-join}
 use Rattle.printing.specs.declared.Line.{Line}

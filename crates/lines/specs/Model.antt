@@ -8,9 +8,9 @@ use lib.ListN.{length, getD, drop}
 use Rattle.limits.specs.declared.FarmCosts.{FarmCosts}
 use Rattle.walk.specs.declared.Chunk.{Chunk}
 use Rattle.planner.specs.declared.Farm.{Farm}
-use Rattle.planner.specs.declared.ComputeCost.{ComputeCost}
-use Rattle.planner.specs.declared.ComputeCost.the-variants.{Absent, Given}
-use Rattle.planner.specs.declared.Offer.{Offer}
+use Rattle.answers.specs.declared.ComputeCost.{ComputeCost}
+use Rattle.answers.specs.declared.ComputeCost.the-variants.{Absent, Given}
+use Rattle.answers.specs.declared.Offer.{Offer}
 use Rattle.planner.specs.Calls.{Said, openSaid, openFarm, offerSaid, offerFarm, quoteSaid, accountSaid, withdrawSaid, withdrawFarm}
 use Rattle.planner.specs.Clock.{moveSaid, moveFarm, moveLines}
 use Rattle.text.specs.Model.{newline}

@@ -1,5 +1,6 @@
--- The calls: what each answers, with the paper's number and values, and the farm that it hands back. Which waiting job has a number, and the jobs without
--- it, are those of the crate queue.
+-- The calls: what each answers, with the paper's number and values, and the farm that it hands back. Offers, questions and answers are those of the crate
+-- answers; which waiting job has a number, and the jobs without it, those of the crate queue.
+pub use Rattle.answers.specs.Model.{Word, Open, Yes, Clock, Shown, Account, Gone, Quote, No, Said, granted, refused, numberOf, said, yesOf, offerOf, offerWith, computeOr, asksOffer, quoteWord, asQuote}
 unfoldable pub use Rattle.queue.specs.Model.{hasNumber, ofNumber, without}
 use Prim.Native.Nat.{ℕ, _+_, _-_, _≤_, _<_}
 use mathlib.Core.List.{List, [], _∷_, _++_}
@@ -11,66 +12,12 @@ use Rattle.limits.specs.declared.FarmCosts.{FarmCosts}
 use Rattle.booking.specs.Model.{bookingOf}
 use Rattle.walk.specs.declared.Job.{Job}
 use Rattle.planner.specs.declared.Farm.{Farm}
-use Rattle.planner.specs.declared.ComputeCost.{ComputeCost}
-use Rattle.planner.specs.declared.ComputeCost.the-variants.{Absent, Given}
-use Rattle.planner.specs.declared.Offer.{Offer}
+use Rattle.answers.specs.declared.Offer.{Offer}
 use Rattle.planner.specs.declared.Reply.{Reply}
-use Rattle.planner.specs.declared.Question.{Question}
-use Rattle.planner.specs.declared.Answer.{Answer}
-use Rattle.planner.specs.declared.Question.the-variants as question
-use Rattle.planner.specs.declared.Answer.the-variants as answer
 use Rattle.planner.specs.Model.{greatest, between, Between, allAtMost, costsWithin, emptyJob, finishOf, waitingOf, termsOf, busyOf, byDeadline, plan, booksAll}
 use Rattle.planner.specs.Passes.{passesOf}
 
--- ---- Answers
-
--- which answer it is: the paper's words open, yes, clock, account, gone, quote and no; what showing answers has no word there
-pub data Word : Type 0 where
-  Open : Word
-  Yes : Word
-  Clock : Word
-  Shown : Word
-  Account : Word
-  Gone : Word
-  Quote : Word
-  No : Word
-
--- an answer in the paper's terms: its word; the number of the question that was answered no, 0 where all were answered yes; and the values
-pub record Said : Type 0 where
-  pub word : Word
-  pub number : ℕ
-  pub values : List ℕ
-
-abbrev pub granted : Word → List ℕ → Said
-granted w vs = record { word = w; number = 0; values = vs }
-
-abbrev pub refused : ℕ → Said
-refused n = record { word = No; number = n; values = [] }
-
-abbrev pub numberOf : Question → ℕ
-numberOf question.Nodes = 1
-numberOf question.Costs = 2
-numberOf question.Shows = 3
-numberOf question.Show = 4
-numberOf question.Size = 5
-numberOf question.Deadline = 6
-numberOf question.Queue = 7
-numberOf question.Walk = 8
-numberOf question.Time = 9
-numberOf question.Lines = 10
-numberOf question.Farm = 11
-numberOf question.Waiting = 12
-
--- the paper's word, number and values for each case of an answer
-abbrev pub said : Answer → Said
-said (answer.Open n s) = granted Open (n ∷ s ∷ [])
-said (answer.Yes j s t k) = granted Yes (j ∷ s ∷ t ∷ k ∷ [])
-said (answer.Clock t n) = granted Clock (t ∷ n ∷ [])
-said (answer.Shown n) = granted Shown (n ∷ [])
-said (answer.Account s h c) = granted Account (s ∷ h ∷ c ∷ [])
-said (answer.Gone j) = granted Gone (j ∷ [])
-said (answer.Quote j s t k) = granted Quote (j ∷ s ∷ t ∷ k ∷ [])
-said (answer.No q) = refused (numberOf q)
+-- ---- Replies
 
 -- a reply says so and hands this farm back
 pub record Replies (r : Reply) (a : Said) (f : Farm) : Type 0 where
@@ -140,18 +87,6 @@ accountSaid f s =
 
 -- ---- Offer
 
--- an offer that gives no compute cost, and one that does
-abbrev pub offerOf : ℕ → ℕ → ℕ → Offer
-offerOf s z d = record { show = s; size = z; deadline = d; compute = Absent }
-
-abbrev pub offerWith : ℕ → ℕ → ℕ → ℕ → Offer
-offerWith s z d p = record { show = s; size = z; deadline = d; compute = Given p }
-
--- the compute cost that is given, otherwise the farm's
-abbrev pub computeOr : ℕ → ComputeCost → ℕ
-computeOr farms Absent = farms
-computeOr farms (Given own) = own
-
 -- the compute cost that the job would have
 abbrev pub computeOf : Farm → Offer → ℕ
 computeOf f o = computeOr (f .costs .compute) (o .compute)
@@ -192,24 +127,9 @@ nextFarm f js = record {
 abbrev pub withPlan : Farm → List Job → Farm
 withPlan f js = nextFarm f (js ++ drop (f .waiting + 1) (f .jobs))
 
--- job, start, finish and count of nodes
-abbrev pub yesOf : FarmCosts → Job → Said
-yesOf c j = granted Yes (j .number ∷ j .booking .start ∷ finishOf c j ∷ j .booking .count ∷ [])
-
 -- questions 11, 4, 5, 2, 6 and 7 in that order: the number of the first answered no, or 0
 unfoldable pub offerAsked : Farm → Offer → ℕ
-offerAsked f o =
-    cond (passesOf f)
-    (cond (between 1 (o .show) (f .shows))
-    (cond (between 1 (o .size) 1_000_000)
-    (cond (between 1 (computeOf f o) 1_000_000)
-    (cond (ltb (f .clock) (o .deadline) && leb (o .deadline) greatest)
-    (cond (ltb (f .waiting) 128 && ltb (f .used) greatest) 0 7)
-    6)
-    2)
-    5)
-    4)
-    11
+offerAsked f o = cond (passesOf f) (asksOffer (f .shows) (f .clock) (f .waiting) (f .used) o (computeOf f o)) 11
 
 -- what they ask, all answered yes
 pub record OfferGranted (f : Farm) (o : Offer) : Type 0 where
@@ -231,21 +151,6 @@ unfoldable pub offerFarm : Farm → Offer → Farm
 offerFarm f o = cond (eqb (offerAsked f o) 0) (cond (accepts f o) (withPlan f (planned f o)) f) f
 
 -- ---- Quote
-
--- the word quote in place of yes; every other word stays
-abbrev pub quoteWord : Word → Word
-quoteWord Open = Open
-quoteWord Yes = Quote
-quoteWord Clock = Clock
-quoteWord Shown = Shown
-quoteWord Account = Account
-quoteWord Gone = Gone
-quoteWord Quote = Quote
-quoteWord No = No
-
--- an answer with that word: its number and its values stay
-abbrev pub asQuote : Said → Said
-asQuote a = record { word = quoteWord (a .word); number = a .number; values = a .values }
 
 -- what an offer to a copy of the farm is told, job number and refusals included, with quote in place of yes. The farm itself stays.
 unfoldable pub quoteSaid : Farm → Offer → Said

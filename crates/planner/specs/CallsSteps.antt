@@ -17,32 +17,15 @@ use Rattle.walk.specs.declared.Job.{Job}
 use Rattle.walk.specs.Order.{by-deadline-perm}
 use Rattle.walk.specs.WalkSteps.{Walkable, Ready}
 use Rattle.planner.specs.declared.Farm.{Farm}
-use Rattle.planner.specs.declared.Offer.{Offer}
+use Rattle.answers.specs.declared.Offer.{Offer}
 use Rattle.planner.specs.declared.Reply.{Reply}
-use Rattle.planner.specs.declared.Question.{Question}
-use Rattle.planner.specs.declared.Question.the-variants as question
-use Rattle.planner.specs.declared.Answer.the-variants as answer
+use Rattle.answers.specs.declared.Question.{Question}
+use Rattle.answers.specs.declared.Question.the-variants as question
+use Rattle.answers.specs.declared.Answer.the-variants as answer
 use Rattle.planner.specs.Model.{greatest, between, costsWithin, defaultCosts, waitingOf, termsOf, busyOf, byDeadline}
 use Rattle.planner.specs.Passes.{passesOf}
 use Rattle.planner.specs.PassesSteps.{passes-within, passes-jobs}
-use Rattle.planner.specs.Calls.{Account, said, granted, refused, numberOf, Replies, unopened, openedWith, showsWithin, openSaid, openFarm, heldBy, allowanceOf, accountSaid, computeOf, offerAsked, offerSaid, offerFarm, asQuote, quoteSaid}
-
--- ---- Questions
-
--- No question has the number 0, which stands for a granted call.
-pub no-number : (q : Question) → eqb (numberOf q) 0 ≡ false
-no-number question.Nodes = refl
-no-number question.Costs = refl
-no-number question.Shows = refl
-no-number question.Show = refl
-no-number question.Size = refl
-no-number question.Deadline = refl
-no-number question.Queue = refl
-no-number question.Walk = refl
-no-number question.Time = refl
-no-number question.Lines = refl
-no-number question.Farm = refl
-no-number question.Waiting = refl
+use Rattle.planner.specs.Calls.{Account, said, granted, refused, numberOf, Replies, unopened, openedWith, showsWithin, openSaid, openFarm, heldBy, allowanceOf, accountSaid, computeOf, asksOffer, offerAsked, offerSaid, offerFarm, asQuote, quoteSaid}
 
 -- ---- Opening
 
@@ -111,32 +94,15 @@ module _ (f : Farm) (o : Offer) where
   unfolding offerAsked
   asked-farm a = rw a
 
-  pub asked-show : passesOf f ≡ true → between 1 (o .show) (f .shows) ≡ false → offerAsked f o ≡ 4
+  pub asked-all : passesOf f ≡ true → between 1 (o .show) (f .shows) ≡ true → between 1 (o .size) 1_000_000 ≡ true → between 1 (computeOf f o) 1_000_000 ≡ true
+      → (ltb (f .clock) (o .deadline) && leb (o .deadline) greatest) ≡ true → (ltb (f .waiting) 128 && ltb (f .used) greatest) ≡ true → offerAsked f o ≡ 0
   unfolding offerAsked
-  asked-show a b = rw (a, b)
+  asked-all a b c p e g = rw (a, b, c, p, e, g)
 
-  module _ (a : passesOf f ≡ true) (b : between 1 (o .show) (f .shows) ≡ true) where
-    pub asked-size : between 1 (o .size) 1_000_000 ≡ false → offerAsked f o ≡ 5
-    unfolding offerAsked
-    asked-size c = rw (a, b, c)
-
-    module _ (c : between 1 (o .size) 1_000_000 ≡ true) where
-      pub asked-compute : between 1 (computeOf f o) 1_000_000 ≡ false → offerAsked f o ≡ 2
-      unfolding offerAsked
-      asked-compute p = rw (a, b, c, p)
-
-      module _ (p : between 1 (computeOf f o) 1_000_000 ≡ true) where
-        pub asked-deadline : (ltb (f .clock) (o .deadline) && leb (o .deadline) greatest) ≡ false → offerAsked f o ≡ 6
-        unfolding offerAsked
-        asked-deadline e = rw (a, b, c, p, e)
-
-        pub asked-queue : (ltb (f .clock) (o .deadline) && leb (o .deadline) greatest) ≡ true → (ltb (f .waiting) 128 && ltb (f .used) greatest) ≡ false → offerAsked f o ≡ 7
-        unfolding offerAsked
-        asked-queue e g = rw (a, b, c, p, e, g)
-
-        pub asked-all : (ltb (f .clock) (o .deadline) && leb (o .deadline) greatest) ≡ true → (ltb (f .waiting) 128 && ltb (f .used) greatest) ≡ true → offerAsked f o ≡ 0
-        unfolding offerAsked
-        asked-all e g = rw (a, b, c, p, e, g)
+  -- Of a farm that passes question 11 the others are asked.
+  pub asked-passed : (p n : ℕ) → passesOf f ≡ true → p ≡ computeOf f o → n ≡ asksOffer (f .shows) (f .clock) (f .waiting) (f .used) o p → n ≡ offerAsked f o
+  unfolding offerAsked
+  asked-passed p n a e h = rw a (h ∙ ap (asksOffer (f .shows) (f .clock) (f .waiting) (f .used) o) e)
 
   -- Refused at a question before the walk: the farm as it was.
   pub offer-refused : (r : Reply) (q : Question) → r ≡ record { answer = answer.No q; farm = f } → offerAsked f o ≡ numberOf q → eqb (numberOf q) 0 ≡ false

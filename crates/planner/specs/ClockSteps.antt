@@ -26,9 +26,9 @@ use Rattle.limits.specs.Model.{CostsWithin}
 use Rattle.limits.specs.Says.{between-is}
 use Rattle.soundness.specs.Sound.{JobKept}
 use Rattle.planner.specs.declared.Farm.{Farm}
-use Rattle.planner.specs.declared.Question.{Question}
-use Rattle.planner.specs.declared.Question.the-variants as question
-use Rattle.planner.specs.declared.Answer.the-variants as answer
+use Rattle.answers.specs.declared.Question.{Question}
+use Rattle.answers.specs.declared.Question.the-variants as question
+use Rattle.answers.specs.declared.Answer.the-variants as answer
 use Rattle.planner.specs.declared.Move.{Move}
 use Rattle.planner.specs.declared.clock.Issue.{Issue}
 use Rattle.planner.specs.Model.{greatest, between, Between, noJob, spansOfAll, afters, inOrder, byStart, waitingOf, busyOf, JobSized, Sized}

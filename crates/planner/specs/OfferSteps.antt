@@ -20,23 +20,17 @@ use Rattle.walk.specs.Order.{by-deadline-perm}
 use Rattle.walk.specs.Plan.{plan-length, plan-sends}
 use Rattle.walk.specs.WalkSteps.{Walked}
 use Rattle.walk.specs.BestWalk.{walk-best}
+use Rattle.answers.specs.Steps.{no-number}
 use Rattle.planner.specs.declared.Farm.{Farm}
-use Rattle.planner.specs.declared.Offer.{Offer}
-use Rattle.planner.specs.declared.Question.{Question}
-use Rattle.planner.specs.declared.Answer.the-variants as answer
+use Rattle.answers.specs.declared.Offer.{Offer}
+use Rattle.answers.specs.declared.Question.{Question}
+use Rattle.answers.specs.declared.Answer.the-variants as answer
 use Rattle.planner.specs.declared.Decision.{Decision}
-use Rattle.planner.specs.declared.offers.Asked.{Asked}
-use Rattle.planner.specs.declared.offers.Asked.the-variants as asked
 use Rattle.planner.specs.Model.{greatest, between, noJob, waitingOf, termsOf, busyOf, busyAfter, byDeadline, plan, booksAll}
 use Rattle.planner.specs.Passes.{passesOf}
 use Rattle.planner.specs.Calls.{said, refused, numberOf, computeOf, OfferGranted, newJob, accepts, nextFarm, ofNumber, yesOf, offerAsked, offerSaid, offerFarm}
 use Rattle.planner.specs.PassesSteps.{passes-within, passes-jobs}
-use Rattle.planner.specs.CallsSteps.{no-number, Offered, walk-ready, deadline-is, place-is}
-
--- the number of the question that was answered no, 0 where none was
-abbrev pub askedOf : Asked → ℕ
-askedOf asked.Yes = 0
-askedOf (asked.No q) = numberOf q
+use Rattle.planner.specs.CallsSteps.{Offered, walk-ready, deadline-is, place-is}
 
 asked-yes : (a b c p d e : Bool) → _≡_ {A = ℕ} (cond a (cond b (cond c (cond p (cond d (cond e 0 7) 6) 2) 5) 4) 11) 0
     → (a ≡ true) × (b ≡ true) × (c ≡ true) × (p ≡ true) × (d ≡ true) × (e ≡ true)

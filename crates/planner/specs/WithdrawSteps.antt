@@ -11,8 +11,8 @@ use Rattle.queue.specs.Steps.{placeOf, closedUp, place-within, place-has, place
 use Rattle.planner.specs.declared.Farm.{Farm}
 use Rattle.planner.specs.declared.Decision.{Decision}
 use Rattle.planner.specs.declared.Reply.{Reply}
-use Rattle.planner.specs.declared.Question.the-variants as question
-use Rattle.planner.specs.declared.Answer.the-variants as answer
+use Rattle.answers.specs.declared.Question.the-variants as question
+use Rattle.answers.specs.declared.Answer.the-variants as answer
 use Rattle.planner.specs.Model.{waitingOf}
 use Rattle.planner.specs.Passes.{passesOf}
 use Rattle.planner.specs.Calls.{hasNumber, without, said, Replies, fewerFarm, withdrawSaid, withdrawFarm}

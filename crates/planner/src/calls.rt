@@ -2,20 +2,20 @@
 ghost use mathlib.Core.Bool.{true};
 ghost use mathlib.Core.Path.{_≡_};
 ghost use Prim.Native.Nat.{_-_, _≤_};
-ghost use mathlib.Core.List.{[], _∷_, _++_};
-ghost use lib.ListN.{length, getD, replicate};
+ghost use mathlib.Core.List.{_++_};
+ghost use lib.ListN.{length, replicate};
 ghost use Rattle.planner.specs.Passes.{passesOf};
-ghost use Rattle.planner.specs.Calls.{Account, said, granted, Replies, unopened, openSaid, openFarm, accountSaid};
-use crate::Answer;
+ghost use Rattle.planner.specs.Calls.{said, Replies, unopened, openSaid, openFarm, accountSaid};
 use crate::Farm;
-use crate::Question;
 use crate::Reply;
 use crate::passing::passes;
+use answers::Answer;
+use answers::Question;
+use answers::columns;
 use limits::FarmCosts;
 use limits::all_at_most;
 use limits::between;
 use limits::costs_within;
-use numbers::less;
 use queue::empty_job;
 
 // The unopened farm, the same one each time.
@@ -67,20 +67,6 @@ fn in_array(row: &[u64]) -> [u64; 32]
         i += 1;
     }
     out
-}
-
-// A show's two columns: its held ticks, and those above its allowance.
-fn columns(held: [u64; 32], allowances: [u64; 32], show: u64) -> Answer
-    requires { ⌜ (1 ≤ show) × (show ≤ 32) ⌝ }
-    ensures { λ r. ⌜ said r ≡ granted Account (show ∷ getD held (show - 1) 0 ∷ (getD held (show - 1) 0 - getD allowances (show - 1) 0) ∷ []) ⌝ }
-{
-    let place = (show - 1) as usize;
-    let ticks = held[place];
-    Answer::Account {
-        show,
-        held: ticks,
-        charged: less(ticks, allowances[place]),
-    }
 }
 
 impl Farm {

@@ -7,6 +7,7 @@ mod passing;
 mod quote;
 mod withdraw;
 
+use answers::Answer;
 use limits::FarmCosts;
 use timetable::Due;
 use walk::Chunk;
@@ -27,72 +28,6 @@ pub struct Farm {
     pub used: u64,
     pub waiting: usize,
     pub jobs: [Job; 128],
-}
-
-// The compute cost of a job that is offered: absent, where the farm's serves, or given.
-pub enum ComputeCost {
-    Absent,
-    Given(u64),
-}
-
-// What is offered: a show's job of a size by a deadline, with its compute cost.
-pub struct Offer {
-    pub show: u64,
-    pub size: u64,
-    pub deadline: u64,
-    pub compute: ComputeCost,
-}
-
-// The question that was answered no.
-pub enum Question {
-    Nodes,
-    Costs,
-    Shows,
-    Show,
-    Size,
-    Deadline,
-    Queue,
-    Walk,
-    Time,
-    Lines,
-    Farm,
-    Waiting,
-}
-
-// What a call answers.
-pub enum Answer {
-    Open {
-        nodes: u64,
-        shows: u64,
-    },
-    Yes {
-        job: u64,
-        start: u64,
-        finish: u64,
-        nodes: u64,
-    },
-    Clock {
-        time: u64,
-        lines: u64,
-    },
-    Shown {
-        lines: u64,
-    },
-    Account {
-        show: u64,
-        held: u64,
-        charged: u64,
-    },
-    Gone {
-        job: u64,
-    },
-    Quote {
-        job: u64,
-        start: u64,
-        finish: u64,
-        nodes: u64,
-    },
-    No(Question),
 }
 
 // An answer, with the farm that is handed back.

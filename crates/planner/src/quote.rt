@@ -2,33 +2,14 @@
 ghost use mathlib.Core.Bool.{true};
 ghost use mathlib.Core.Path.{_≡_};
 ghost use Rattle.planner.specs.Passes.{passesOf};
-ghost use Rattle.planner.specs.Calls.{said, Replies, asQuote, quoteSaid};
-use crate::Answer;
+ghost use Rattle.planner.specs.Calls.{said, Replies, quoteSaid};
 use crate::Farm;
-use crate::Offer;
-use crate::Question;
 use crate::Reply;
 use crate::passing::passes;
-
-// The answer to an offer as that to a quote: another word for `yes`.
-fn as_quote(answer: Answer) -> Answer
-    ensures { λ r. ⌜ said r ≡ asQuote (said answer) ⌝ }
-{
-    match answer {
-        Answer::Yes {
-            job,
-            start,
-            finish,
-            nodes,
-        } => Answer::Quote {
-            job,
-            start,
-            finish,
-            nodes,
-        },
-        _ => answer,
-    }
-}
+use answers::Answer;
+use answers::Offer;
+use answers::Question;
+use answers::as_quote;
 
 impl Farm {
     // What an offer would be told: questions 11, 4, 5, 2, 6, 7 and 8 in that order.

@@ -4,13 +4,13 @@ ghost use mathlib.Core.Path.{_≡_};
 ghost use Rattle.planner.specs.Passes.{passesOf};
 ghost use Rattle.planner.specs.Calls.{Replies, withdrawSaid, withdrawFarm};
 ghost use Rattle.planner.specs.WithdrawSteps.{DecidesWithdraw};
-use crate::Answer;
 use crate::Decision;
 use crate::Farm;
-use crate::Question;
 use crate::Reply;
 use crate::calls::refused;
 use crate::passing::passes;
+use answers::Answer;
+use answers::Question;
 use queue::closed_up;
 use queue::place_of;
 

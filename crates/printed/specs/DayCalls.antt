@@ -15,7 +15,7 @@ use Rattle.limits.specs.declared.FarmCosts.{FarmCosts}
 use Rattle.walk.specs.declared.Chunk.{Chunk}
 use Rattle.walk.specs.Model.{noChunk}
 use Rattle.planner.specs.declared.Farm.{Farm}
-use Rattle.planner.specs.declared.Offer.{Offer}
+use Rattle.answers.specs.declared.Offer.{Offer}
 use Rattle.planner.specs.Calls.{hasNumber, ofNumber, Word, Open, Yes, Clock, Shown, Account, Gone, Quote, No, Said, granted, refused, unopened, showsWithin, openSaid, heldBy, allowanceOf, accountSaid, computeOr, planned, accepts, yesOf, offerAsked, offerSaid, quoteWord, quoteSaid, withdrawSaid}
 use Rattle.planner.specs.Model.{between, costsWithin, waitingOf}
 use Rattle.planner.specs.Passes.{passesOf}

@@ -1,6 +1,6 @@
 -- `lines::answer::line_of` meets its contract.
 use borrow.Author.Needs.{needs}
-use Rattle.planner.specs.CallsSteps.{no-number}
+use Rattle.answers.specs.Steps.{no-number}
 use Rattle.lines.specs.AnswerLines.{lineWith}
 use Rattle.lines.proofs.answer.line_of.Statement.{statement}
 use Rattle.lines.proofs.answer.line_of.Tie as tie

@@ -2,9 +2,10 @@
 use mathlib.Core.Path.{_≡_, sym, ap, subst, _∙_}
 use native.Mathlib.Omega.{arith}
 use Rattle.walk.specs.declared.Job.{Job}
+use Rattle.answers.specs.Steps.{askedOf}
 use Rattle.planner.specs.Calls.{offerAsked}
-use Rattle.planner.specs.CallsSteps.{Offered}
-use Rattle.planner.specs.OfferSteps.{askedOf, Planned, offer-granted, offer-offered, decides-no, decides-planned, new-job-is}
+use Rattle.planner.specs.CallsSteps.{Offered, asked-passed}
+use Rattle.planner.specs.OfferSteps.{Planned, offer-granted, offer-offered, decides-no, decides-planned, new-job-is}
 use borrow.Author.Needs.{needs}
 use Rattle.planner.proofs.Farm.offer_unchecked.Statement.{statement}
 use Rattle.planner.proofs.Farm.offer_unchecked.Tie as tie
@@ -13,7 +14,7 @@ compute-or-requires : tie.Need-compute-or-requires
 compute-or-requires c κs = search needs
 
 ask-requires : tie.Need-ask-requires
-ask-requires c κs = (c .before .before .before .pre, c .compute-or .ensures)
+ask-requires c κs = search needs
 
 enum-known-first : tie.Need-enum-known-first
 enum-known-first c = search needs
@@ -24,22 +25,25 @@ enum-told c = search needs
 add-new-job : tie.Need-add-new-job
 add-new-job c =
     let t = c .before .before .before in
-    let a = t .before .before .before .before .args in
-    let yes : offerAsked (a .self) (a .offer) ≡ 0 = sym (t .ask .ensures) ∙ ap askedOf (c .before .enum-told .given .1) in
+    let s = t .before .before .before .before in
+    let a = s .args in
+    let yes : offerAsked (a .self) (a .offer) ≡ 0 = sym (asked-passed (a .self) (a .offer) _ _ (s .pre) (t .before .compute-or .ensures) (t .ask .ensures)) ∙ ap askedOf (c .before .enum-told .given .1) in
     omega (arith, offer-granted (a .self) (a .offer) yes .place)
 
 cast-new-job : tie.Need-cast-new-job
 cast-new-job c =
     let t = c .before .before .before .before in
-    let a = t .before .before .before .before .args in
-    let yes : offerAsked (a .self) (a .offer) ≡ 0 = sym (t .ask .ensures) ∙ ap askedOf (c .before .before .enum-told .given .1) in
+    let s = t .before .before .before .before in
+    let a = s .args in
+    let yes : offerAsked (a .self) (a .offer) ≡ 0 = sym (asked-passed (a .self) (a .offer) _ _ (s .pre) (t .before .compute-or .ensures) (t .ask .ensures)) ∙ ap askedOf (c .before .before .enum-told .given .1) in
     omega (arith, offer-granted (a .self) (a .offer) yes .size)
 
 cast-new-job-2 : tie.Need-cast-new-job-2
 cast-new-job-2 c =
     let t = c .before .before .before .before in
-    let a = t .before .before .before .before .args in
-    let yes : offerAsked (a .self) (a .offer) ≡ 0 = sym (t .ask .ensures) ∙ ap askedOf (c .before .before .enum-told .given .1) in
+    let s = t .before .before .before .before in
+    let a = s .args in
+    let yes : offerAsked (a .self) (a .offer) ≡ 0 = sym (asked-passed (a .self) (a .offer) _ _ (s .pre) (t .before .compute-or .ensures) (t .ask .ensures)) ∙ ap askedOf (c .before .before .enum-told .given .1) in
     omega (arith, offer-granted (a .self) (a .offer) yes .compute, t .before .compute-or .ensures)
 
 new-job-requires : tie.Need-new-job-requires
@@ -48,8 +52,9 @@ new-job-requires c κs = search needs
 planned-requires : tie.Need-planned-requires
 planned-requires c κs =
     let t = c .before .before .before .before .before in
-    let a = t .before .before .before .before .args in
-    let yes : offerAsked (a .self) (a .offer) ≡ 0 = sym (t .ask .ensures) ∙ ap askedOf (c .before .before .before .enum-told .given .1) in
+    let s = t .before .before .before .before in
+    let a = s .args in
+    let yes : offerAsked (a .self) (a .offer) ≡ 0 = sym (asked-passed (a .self) (a .offer) _ _ (s .pre) (t .before .compute-or .ensures) (t .ask .ensures)) ∙ ap askedOf (c .before .before .before .enum-told .given .1) in
     let new = new-job-is (a .self) (a .offer) _ (c .new-job .result) (c .new-job .ensures) (t .before .compute-or .ensures) in (
       subst (Offered (a .self)) (sym new) (offer-offered (a .self) (a .offer) (offer-granted (a .self) (a .offer) yes)),
       ap (λ (j : Job). j .number) new,
@@ -58,14 +63,16 @@ planned-requires c κs =
 returns : tie.Need-returns
 returns c =
     let t = c .before .before .before in
-    let a = t .before .before .before .before .args in
-    decides-no (a .self) (a .offer) _ _ (sym (ap askedOf (c .before .first .given .1)) ∙ t .ask .ensures)
+    let s = t .before .before .before .before in
+    let a = s .args in
+    decides-no (a .self) (a .offer) _ _ (sym (ap askedOf (c .before .first .given .1)) ∙ asked-passed (a .self) (a .offer) _ _ (s .pre) (t .before .compute-or .ensures) (t .ask .ensures))
 
 returns-2 : tie.Need-returns-2
 returns-2 c =
     let t = c .before .before .before .before .before .before in
-    let a = t .before .before .before .before .args in
-    let yes : offerAsked (a .self) (a .offer) ≡ 0 = sym (t .ask .ensures) ∙ ap askedOf (c .before .before .before .before .enum-told .given .1) in
+    let s = t .before .before .before .before in
+    let a = s .args in
+    let yes : offerAsked (a .self) (a .offer) ≡ 0 = sym (asked-passed (a .self) (a .offer) _ _ (s .pre) (t .before .compute-or .ensures) (t .ask .ensures)) ∙ ap askedOf (c .before .before .before .before .enum-told .given .1) in
     let new = new-job-is (a .self) (a .offer) _ (c .before .new-job .result) (c .before .new-job .ensures) (t .before .compute-or .ensures) in
     decides-planned (a .self) (a .offer) (c .planned .result) yes (subst (λ (j : Job). Planned (a .self) j (c .planned .result)) new (c .planned .ensures))
 

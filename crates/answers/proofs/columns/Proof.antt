@@ -1,7 +1,7 @@
--- `planner::calls::columns` meets its contract.
+-- `answers::columns` meets its contract.
 use borrow.Author.Needs.{needs}
-use Rattle.planner.proofs.calls.columns.Statement.{statement}
-use Rattle.planner.proofs.calls.columns.Tie as tie
+use Rattle.answers.proofs.columns.Statement.{statement}
+use Rattle.answers.proofs.columns.Tie as tie
 
 sub-place : tie.Need-sub-place
 sub-place c = search needs

@@ -1,16 +1,16 @@
--- `planner::quote::as_quote` meets its contract: `yes` gets the other word, and any other answer is handed back.
+-- `answers::as_quote` meets its contract: `yes` gets the other word, and any other answer is handed back.
 use mathlib.Core.Path.{_≡_, refl}
 use mathlib.Core.List.{List, [], _∷_}
 use Prim.Native.Nat.{ℕ}
 use types.Run.{OneOf, miss}
 use denote.Enum.Declared.{tagOf}
 use borrow.Author.Needs.{needs}
-use Rattle.planner.specs.declared.Answer.{Answer}
-use Rattle.planner.specs.declared.Answer.the-variants as answer
-use Rattle.planner.specs.Calls.{said, asQuote}
-use Rattle.planner.proofs.Answer.{the-type}
-use Rattle.planner.proofs.quote.as_quote.Statement.{statement}
-use Rattle.planner.proofs.quote.as_quote.Tie as tie
+use Rattle.answers.specs.declared.Answer.{Answer}
+use Rattle.answers.specs.declared.Answer.the-variants as answer
+use Rattle.answers.specs.Model.{said, asQuote}
+use Rattle.answers.proofs.Answer.{the-type}
+use Rattle.answers.proofs.as_quote.Statement.{statement}
+use Rattle.answers.proofs.as_quote.Tie as tie
 
 -- the places, among the answers, of those that are not `yes`
 abbrev others : List ℕ

@@ -1,7 +1,7 @@
--- `planner::offers::yes` meets its contract.
+-- `answers::yes` meets its contract.
 use borrow.Author.Needs.{needs}
-use Rattle.planner.proofs.offers.yes.Statement.{statement}
-use Rattle.planner.proofs.offers.yes.Tie as tie
+use Rattle.answers.proofs.yes.Statement.{statement}
+use Rattle.answers.proofs.yes.Tie as tie
 
 finish-of-requires : tie.Need-finish-of-requires
 finish-of-requires c κs = search needs

@@ -1,7 +1,7 @@
--- `planner::offers::compute_or` meets its contract, case by case.
+-- `answers::compute_or` meets its contract, case by case.
 use borrow.Author.Needs.{needs}
-use Rattle.planner.proofs.offers.compute_or.Statement.{statement}
-use Rattle.planner.proofs.offers.compute_or.Tie as tie
+use Rattle.answers.proofs.compute_or.Statement.{statement}
+use Rattle.answers.proofs.compute_or.Tie as tie
 
 enum-told : tie.Need-enum-told
 enum-told c = search needs

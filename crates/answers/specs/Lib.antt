@@ -1,0 +1,3 @@
+-- What a reader must believe is Model.
+pub mod Model
+pub mod Steps
