@@ -6,7 +6,7 @@ use Prim.Native.Nat.{ℕ, _+_, _-_, _≤_, _<_}
 use mathlib.Core.List.{List, [], _∷_, _++_}
 use mathlib.Core.Bool.{Bool, true, false, cond, _&&_}
 use mathlib.Core.Path.{_≡_}
-use lib.Dec.{leb, ltb, eqb}
+use lib.Dec.{eqb}
 use lib.ListN.{length, getD, drop, replicate}
 use Rattle.limits.specs.declared.FarmCosts.{FarmCosts}
 use Rattle.booking.specs.Model.{bookingOf}
@@ -14,7 +14,7 @@ use Rattle.walk.specs.declared.Job.{Job}
 use Rattle.planner.specs.declared.Farm.{Farm}
 use Rattle.answers.specs.declared.Offer.{Offer}
 use Rattle.planner.specs.declared.Reply.{Reply}
-use Rattle.planner.specs.Model.{greatest, between, Between, allAtMost, costsWithin, emptyJob, finishOf, waitingOf, termsOf, busyOf, byDeadline, plan, booksAll}
+use Rattle.planner.specs.Model.{greatest, between, Between, allAtMost, costsWithin, emptyJob, waitingOf, termsOf, busyOf, byDeadline, plan, booksAll}
 use Rattle.planner.specs.Passes.{passesOf}
 
 -- ---- Replies
