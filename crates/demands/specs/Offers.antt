@@ -14,7 +14,7 @@ use Rattle.planner.specs.declared.Farm.{Farm}
 use Rattle.answers.specs.declared.Offer.{Offer}
 use Rattle.planner.specs.Model.{greatest, termsOf, busyOf}
 use Rattle.planner.specs.Calls.{refused, offerOf, offerWith, computeOf, newJob, queueOf, planned, accepts, withPlan, offerAsked, offerSaid, offerFarm, OfferGranted}
-use Rattle.planner.specs.CallsSteps.{asked-all, walk-ready}
+use Rattle.planner.specs.CallsSteps.{asked-none, walk-ready}
 use Rattle.planner.specs.OfferSteps.{offer-granted, offer-offered}
 
 -- An offer that does not pass questions 11, 4, 5, 2, 6 and 7 is refused with the number of the first answered no, and the farm is as it was.
@@ -27,7 +27,7 @@ pub granted-asked : (f : Farm) (o : Offer) → OfferGranted f o → offerAsked f
 granted-asked f o g =
     let deadline : (ltb (f .clock) (o .deadline) && leb (o .deadline) greatest) ≡ true = rw (lt-ltb (f .clock) (o .deadline) (g .deadline .0)) (le-leb (o .deadline) greatest (g .deadline .1)) in
     let place : (ltb (f .waiting) 128 && ltb (f .used) greatest) ≡ true = rw (lt-ltb (f .waiting) 128 (g .place .0)) (lt-ltb (f .used) greatest (g .place .1)) in
-    asked-all f o (g .passes) (says-between 1 (o .show) (f .shows) .follows (g .show)) (says-between 1 (o .size) 1_000_000 .follows (g .size)) (says-between 1 (computeOf f o) 1_000_000 .follows (g .compute)) deadline place
+    asked-none f o (g .passes) (says-between 1 (o .show) (f .shows) .follows (g .show)) (says-between 1 (o .size) 1_000_000 .follows (g .size)) (says-between 1 (computeOf f o) 1_000_000 .follows (g .compute)) deadline place
 
 -- An offer that gives no compute cost is the same call as one that gives the farm's.
 pub absent-as-given : (f : Farm) (s z d : ℕ) → (offerSaid f (offerOf s z d) ≡ offerSaid f (offerWith s z d (f .costs .compute))) × (offerFarm f (offerOf s z d) ≡ offerFarm f (offerWith s z d (f .costs .compute)))

@@ -1,5 +1,5 @@
 -- Opening, offers and accounts, question by question: what the functions of src/calls.rt need and promise each other.
-use mathlib.Core.Path.{_≡_, ap, sym, _∙_}
+use mathlib.Core.Path.{_≡_, refl, ap, sym, _∙_}
 use mathlib.Core.List.{List, [], _∷_, _++_}
 use mathlib.Core.Bool.{true, false, _&&_}
 use Prim.Native.Nat.{ℕ, suc, _+_, _-_, _≤_, _<_}
@@ -16,6 +16,7 @@ use Rattle.limits.specs.Tests.{and-both}
 use Rattle.walk.specs.declared.Job.{Job}
 use Rattle.walk.specs.Order.{by-deadline-perm}
 use Rattle.walk.specs.WalkSteps.{Walkable, Ready}
+use Rattle.answers.specs.Steps.{asked-all}
 use Rattle.planner.specs.declared.Farm.{Farm}
 use Rattle.answers.specs.declared.Offer.{Offer}
 use Rattle.planner.specs.declared.Reply.{Reply}
@@ -94,15 +95,15 @@ module _ (f : Farm) (o : Offer) where
   unfolding offerAsked
   asked-farm a = rw a
 
-  pub asked-all : passesOf f ≡ true → between 1 (o .show) (f .shows) ≡ true → between 1 (o .size) 1_000_000 ≡ true → between 1 (computeOf f o) 1_000_000 ≡ true
-      → (ltb (f .clock) (o .deadline) && leb (o .deadline) greatest) ≡ true → (ltb (f .waiting) 128 && ltb (f .used) greatest) ≡ true → offerAsked f o ≡ 0
-  unfolding offerAsked
-  asked-all a b c p e g = rw (a, b, c, p, e, g)
-
   -- Of a farm that passes question 11 the others are asked.
   pub asked-passed : (p n : ℕ) → passesOf f ≡ true → p ≡ computeOf f o → n ≡ asksOffer (f .shows) (f .clock) (f .waiting) (f .used) o p → n ≡ offerAsked f o
   unfolding offerAsked
   asked-passed p n a e h = rw a (h ∙ ap (asksOffer (f .shows) (f .clock) (f .waiting) (f .used) o) e)
+
+  -- Where each is answered yes none stops it.
+  pub asked-none : passesOf f ≡ true → between 1 (o .show) (f .shows) ≡ true → between 1 (o .size) 1_000_000 ≡ true → between 1 (computeOf f o) 1_000_000 ≡ true
+      → (ltb (f .clock) (o .deadline) && leb (o .deadline) greatest) ≡ true → (ltb (f .waiting) 128 && ltb (f .used) greatest) ≡ true → offerAsked f o ≡ 0
+  asked-none a b c p e g = sym (asked-passed (computeOf f o) 0 a refl (sym (asked-all (f .shows) (f .clock) (f .waiting) (f .used) o (computeOf f o) b c p e g)))
 
   -- Refused at a question before the walk: the farm as it was.
   pub offer-refused : (r : Reply) (q : Question) → r ≡ record { answer = answer.No q; farm = f } → offerAsked f o ≡ numberOf q → eqb (numberOf q) 0 ≡ false

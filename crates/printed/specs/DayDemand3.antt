@@ -78,7 +78,7 @@ accountOf al s xs = cond (between 1 s (length al)) (granted Account (s ∷ heldI
 
 -- ---- A quote and its offer
 
--- one answer s that the line j is told behind the line q, which is told the same as a quote
+-- one answer, which the line j is told behind the line q, and q with `quote` in place of `yes`
 pub record QuotedAs (f : Farm) (q j : List ℕ) : Type 0 where
   pub told : Said
   pub first : linePrints f q ≡ answer (asQuote told) ∷ []
