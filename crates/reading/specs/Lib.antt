@@ -1,4 +1,5 @@
 -- What a reader must believe is Model; the other files show what follows from it.
 pub mod Model
 pub mod Steps
+pub mod Separators
 pub mod Laws

@@ -1,6 +1,6 @@
 -- A line of input and the record that it is, in the words of document 01: fields parted by tabs, the first a kind, the others numbers of 1 to 13
 -- digits. A line is given without its newline. Everything here is a definition; nothing is assumed.
-use Prim.Native.Nat.{ℕ, suc, min}
+use Prim.Native.Nat.{ℕ, min}
 use mathlib.Core.List.{List, [], _∷_, map}
 use mathlib.Core.Bool.{Bool, true, false, cond, _&&_}
 use lib.Dec.{leb, eqb}
@@ -11,11 +11,6 @@ use Rattle.reading.specs.declared.Kind.{Kind}
 use Rattle.reading.specs.declared.Kind.the-variants as kind
 
 -- ---- Bytes
-
--- how many bytes stand before the first b; all of them where there is none
-unfoldable pub before : ℕ → List ℕ → ℕ
-before b [] = 0
-before b (x ∷ xs) = cond (eqb x b) 0 (suc (before b xs))
 
 -- the same bytes
 unfoldable pub same : List ℕ → List ℕ → Bool

@@ -10,29 +10,13 @@ use borrow.Author.Tests.{le-leb, lt-leb, eq-eqb, ne-eqb}
 use lib.Dec.{leb, eqb}
 use lib.ListN.{length, getD, take, drop, set, replicate, length-map}
 use lib.Seq.{sets, drop-cons, drop-length, drop-drop, take-nil}
+use Rattle.search.specs.Model.{this, upTo}
 use Rattle.text.specs.Model.{tab, valueFrom, value, padded}
 use Rattle.reading.specs.declared.Number.{Number}
 use Rattle.reading.specs.declared.Numbers.{Numbers}
 use Rattle.reading.specs.declared.Kind.{Kind}
 use Rattle.reading.specs.declared.Kind.the-variants as kind
-use Rattle.reading.specs.Model.{before, same, onFirst, fields, othersOf, allDigits, isNumber, allNumbers, kindOf, fits, lineKind, readable, rowWith, rowOf}
-
--- ---- The next of a byte
-
-module _ (b : ℕ) (xs : List ℕ) (i : ℕ) (h : i < length xs) where
-  before-cons : before b (drop i xs) ≡ cond (eqb (getD xs i 0) b) 0 (suc (before b (drop (i + 1) xs)))
-  unfolding before
-  before-cons = rw (add-one, drop-cons xs i 0 h)
-
-  pub before-stop : getD xs i 0 ≡ b → before b (drop i xs) ≡ 0
-  before-stop e = before-cons ∙ rw (eq-eqb (getD xs i 0) b e)
-
-  pub before-more : (getD xs i 0 ≡ b → ⊥) → before b (drop i xs) ≡ suc (before b (drop (i + 1) xs))
-  before-more n = before-cons ∙ rw (ne-eqb (getD xs i 0) b n)
-
-pub before-none : (b : ℕ) (xs : List ℕ) (i : ℕ) → i ≡ length xs → before b (drop i xs) ≡ 0
-unfolding before
-before-none b xs i e = rw (e, drop-length xs)
+use Rattle.reading.specs.Model.{same, onFirst, fields, othersOf, allDigits, isNumber, allNumbers, kindOf, fits, lineKind, readable, rowWith, rowOf}
 
 -- ---- The same bytes
 
@@ -115,23 +99,23 @@ abbrev pub behind : List ℕ → List (List ℕ)
 behind [] = []
 behind (b ∷ bs) = fields bs
 
-cut-step : (t : Bool) (b : ℕ) (bs : List ℕ) → fields bs ≡ take (before tab bs) bs ∷ behind (drop (before tab bs) bs)
-    → cond t ([] ∷ fields bs) (onFirst b (fields bs)) ≡ take (cond t 0 (suc (before tab bs))) (b ∷ bs) ∷ behind (drop (cond t 0 (suc (before tab bs))) (b ∷ bs))
+cut-step : (t : Bool) (b : ℕ) (bs : List ℕ) → fields bs ≡ take (upTo (this tab) bs) bs ∷ behind (drop (upTo (this tab) bs) bs)
+    → cond t ([] ∷ fields bs) (onFirst b (fields bs)) ≡ take (cond t 0 (suc (upTo (this tab) bs))) (b ∷ bs) ∷ behind (drop (cond t 0 (suc (upTo (this tab) bs))) (b ∷ bs))
 cut-step true b bs h = refl
 cut-step false b bs h = ap (onFirst b) h
 
 -- The first field goes up to the first tab.
-pub fields-cut : (xs : List ℕ) → fields xs ≡ take (before tab xs) xs ∷ behind (drop (before tab xs) xs)
-unfolding fields before
+pub fields-cut : (xs : List ℕ) → fields xs ≡ take (upTo (this tab) xs) xs ∷ behind (drop (upTo (this tab) xs) xs)
+unfolding fields upTo
 fields-cut [] = refl
 fields-cut (b ∷ bs) = cut-step (eqb b tab) b bs (fields-cut bs)
 
 -- The next field behind the tab at i goes up to the next tab, at t.
-pub behind-next : (xs : List ℕ) (i t : ℕ) → i < length xs → t ≡ i + 1 + before tab (drop (i + 1) xs)
+pub behind-next : (xs : List ℕ) (i t : ℕ) → i < length xs → t ≡ i + 1 + upTo (this tab) (drop (i + 1) xs)
     → behind (drop i xs) ≡ take (t - (i + 1)) (drop (i + 1) xs) ∷ behind (drop t xs)
 behind-next xs i t h e =
-    let w : t - (i + 1) ≡ before tab (drop (i + 1) xs) = omega arith in
-    rw (w, e, ← drop-drop (before tab (drop (i + 1) xs)) (i + 1) xs, drop-cons xs i 0 h, ← add-one i) (fields-cut (drop (i + 1) xs))
+    let w : t - (i + 1) ≡ upTo (this tab) (drop (i + 1) xs) = omega arith in
+    rw (w, e, ← drop-drop (upTo (this tab) (drop (i + 1) xs)) (i + 1) xs, drop-cons xs i 0 h, ← add-one i) (fields-cut (drop (i + 1) xs))
 
 pub behind-none : (xs : List ℕ) (i : ℕ) → i ≡ length xs → behind (drop i xs) ≡ []
 behind-none xs i e = rw (e, drop-length xs)
@@ -148,9 +132,12 @@ module _ (c : ℕ) (out : List ℕ) (fs : List (List ℕ)) (f : List ℕ) (gs : 
   unfolding gathered
   gathered-more x next d k s = let t : isNumber f ≡ true = sym (ap (λ (y : Number). y .known) d) ∙ k in rw (add-one, s, e, d, t)
 
-  pub gathered-stop : (x : Number) → x ≡ numberIn f → x .known ≡ false → gathered c out fs ≡ record { known = false; count = c; numbers = out }
+  pub gathered-end : isNumber f ≡ false → gathered c out fs ≡ record { known = false; count = c; numbers = out }
   unfolding gathered
-  gathered-stop x d k = let t : isNumber f ≡ false = sym (ap (λ (y : Number). y .known) d) ∙ k in rw (e, t)
+  gathered-end t = rw (e, t)
+
+  pub gathered-stop : (x : Number) → x ≡ numberIn f → x .known ≡ false → gathered c out fs ≡ record { known = false; count = c; numbers = out }
+  gathered-stop x d k = gathered-end (sym (ap (λ (y : Number). y .known) d) ∙ k)
 
 pub gathered-none : (c : ℕ) (out : List ℕ) (fs : List (List ℕ)) → fs ≡ [] → gathered c out fs ≡ record { known = true; count = c; numbers = out }
 unfolding gathered
@@ -198,8 +185,8 @@ sets-zeros (suc n) (v ∷ vs) =
     let z : suc n - suc (length vs) ≡ n - length vs = omega arith in
     rw z (sets-cons v (replicate n 0) 0 vs ∙ ap (λ (l : List ℕ). v ∷ l) (sets-zeros n vs))
 
-module _ (xs : List ℕ) (e : ℕ) (k : Kind) (x : Numbers) (cut : e ≡ 0 + before tab xs) (word : k ≡ kindOf (take (e - 0) xs)) (all : x ≡ gathered 0 (replicate 39 0) (behind (drop e xs))) where
-  at-tab : before tab xs ≡ e
+module _ (xs : List ℕ) (e : ℕ) (k : Kind) (x : Numbers) (cut : e ≡ 0 + upTo (this tab) xs) (word : k ≡ kindOf (take (e - 0) xs)) (all : x ≡ gathered 0 (replicate 39 0) (behind (drop e xs))) where
+  at-tab : upTo (this tab) xs ≡ e
   at-tab = omega arith
 
   first-is : lineKind xs ≡ k

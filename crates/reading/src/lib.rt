@@ -1,14 +1,16 @@
 // Text in: one line, given without its newline, and the record that it is. It knows bytes and numbers, and no farm.
-// What the public functions mean is in specs/Model.antt, what their parts work out in specs/Steps.antt.
+// What the public functions mean is in specs/Model.antt, what their parts work out in specs/Steps.antt and specs/Separators.antt.
 ghost use mathlib.Core.Path.{_≡_};
 ghost use mathlib.Core.Bool.{cond};
 ghost use mathlib.Core.List.{[]};
-ghost use Prim.Native.Nat.{_+_, _≤_};
+ghost use Prim.Native.Nat.{_≤_};
 ghost use lib.ListN.{length, drop, set, replicate};
-ghost use Rattle.reading.specs.Model.{before, same, kindOf, fits, rowWith, rowOf};
+ghost use Rattle.reading.specs.Model.{same, kindOf, fits, rowWith, rowOf};
+ghost use Rattle.reading.specs.Separators.{fieldFrom};
 ghost use Rattle.reading.specs.Steps.{numberIn, behind, gathered};
 use numbers::least;
 use numbers::wide8;
+use search::next_of;
 
 // The kind of a line, which its first field names; and that of a line that cannot be read.
 pub enum Kind {
@@ -28,7 +30,13 @@ pub struct Row {
     pub numbers: [u64; 39],
 }
 
-// A field: whether it is a number, and its value.
+// A field: where it ends, and whether that is at a tab or at the line's end, and not at a newline.
+struct Field {
+    end: usize,
+    whole: bool,
+}
+
+// A field as a number: whether it is one, and its value.
 struct Number {
     known: bool,
     value: u64,
@@ -46,19 +54,17 @@ struct Numbers {
     numbers: [u64; 39],
 }
 
-// Where the byte stands next, at `from` or behind it; the length where it does not. It serves tabs and newlines alike.
-pub fn find(text: &[u8], from: usize, byte: u8) -> usize
-    requires { ⌜ from ≤ length (now text) ⌝ }
-    ensures { λ r. ⌜ (r ≡ from + before byte (drop from (now (text .entry)))) × (r ≤ length (now (text .entry))) ⌝ }
+// The field from `from` on, up to the next tab or newline.
+fn field_from(line: &[u8], from: usize) -> Field
+    requires { ⌜ from ≤ length (now line) ⌝ }
+    ensures { λ r. ⌜ (r ≡ fieldFrom (now (line .entry)) from) × (from ≤ r .end) × (r .end ≤ length (now (line .entry))) ⌝ }
 {
-    let mut i = from;
-    while i < text.len() {
-        if text[i] == byte {
-            return i;
-        }
-        i += 1;
+    let end = next_of(line, from, b'\t', b'\n');
+    if end < line.len() {
+        let whole = line[end] != b'\n';
+        return Field { end, whole };
     }
-    i
+    Field { end, whole: true }
 }
 
 // ---- The kind
@@ -170,7 +176,15 @@ fn gather(line: &[u8], from: usize) -> Numbers
     let mut at = from;
     while at < n {
         let start = at + 1;
-        let end = find(line, start, 9);
+        let field = field_from(line, start);
+        if !field.whole {
+            return Numbers {
+                known: false,
+                count,
+                numbers,
+            };
+        }
+        let end = field.end;
         let x = digits(&line[start..end]);
         if !x.known {
             return Numbers {
@@ -208,7 +222,11 @@ pub fn unreadable() -> Row
 pub fn read(line: &[u8]) -> Row
     ensures { λ r. ⌜ r ≡ rowOf (now (line .entry)) ⌝ }
 {
-    let end = find(line, 0, 9);
+    let first = field_from(line, 0);
+    if !first.whole {
+        return unreadable();
+    }
+    let end = first.end;
     let kind = kind_of(&line[0..end]);
     let x = gather(line, end);
     if !x.known {

@@ -1,9 +1,10 @@
 -- `reading::gather` meets its contract. The loop's invariant: the fields left, behind the numbers stored, decide. The measure is how much is left.
 use mathlib.Core.Path.{_≡_, refl, sym, _∙_}
-use Prim.Native.Nat.{_-_, _≤_}
+use Prim.Native.Nat.{_+_, _-_, _≤_}
 use native.Mathlib.Omega.{arith}
 use lib.ListN.{length, drop, replicate}
 use borrow.Author.Tests.{not-true, not-false}
+use Rattle.reading.specs.Separators.{field-whole, gathered-broken}
 use Rattle.reading.specs.Steps.{behind, behind-next, behind-none, gathered, gathered-more, gathered-stop, gathered-none}
 use borrow.Author.Needs.{needs}
 use Rattle.reading.proofs.gather.Statement.{statement}
@@ -21,8 +22,15 @@ loop-holds c = (omega arith, omega arith, refl)
 add-start : tie.Need-add-start Inv-loop μ-loop
 add-start c = search needs
 
-find-requires : tie.Need-find-requires Inv-loop μ-loop
-find-requires c κs = search needs
+field-from-requires : tie.Need-field-from-requires Inv-loop μ-loop
+field-from-requires c κs = search needs
+
+returns : tie.Need-returns Inv-loop μ-loop
+returns c =
+    let a = c .before .before .before .before .before .before .args in
+    let l = c .before .before .before .before .loop in
+    let f = c .before .before .field-from in
+    sym (sym (l .inv .2) ∙ gathered-broken (l .count) (l .numbers) (a .line .now) (l .at) (f .result) (c .before .before .before .loop-test .taken) (f .ensures .0) (not-true _ (c .if1 .taken)))
 
 sub-digits : tie.Need-sub-digits Inv-loop μ-loop
 sub-digits c = search needs
@@ -36,14 +44,14 @@ part-digits-end c = search needs
 digits-requires : tie.Need-digits-requires Inv-loop μ-loop
 digits-requires c κs = search needs
 
-returns : tie.Need-returns Inv-loop μ-loop
-returns c =
-    let a = c .before .before .before .before .before .before .before .before .args in
-    let l = c .before .before .before .before .before .before .loop in
-    let f = c .before .before .before .before .find in
+returns-2 : tie.Need-returns-2 Inv-loop μ-loop
+returns-2 c =
+    let a = c .before .before .before .before .before .before .before .before .before .before .args in
+    let l = c .before .before .before .before .before .before .before .before .loop in
+    let f = c .before .before .before .before .before .before .field-from in
     let d = c .before .before .digits in
-    let cut = behind-next (a .line .now) (l .at) (f .result) (c .before .before .before .before .before .loop-test .taken) (f .ensures .0) in
-    sym (sym (l .inv .2) ∙ gathered-stop (l .count) (l .numbers) _ _ _ cut (d .result) (d .ensures) (not-true _ (c .if1 .taken)))
+    let cut = behind-next (a .line .now) (l .at) (f .result .end) (c .before .before .before .before .before .before .before .loop-test .taken) (field-whole (a .line .now) (l .at + 1) (f .result) (f .ensures .0) (not-false _ (c .before .before .before .before .if1 .left))) in
+    sym (sym (l .inv .2) ∙ gathered-stop (l .count) (l .numbers) _ _ _ cut (d .result) (d .ensures) (not-true _ (c .if2 .taken)))
 
 stored-requires : tie.Need-stored-requires Inv-loop μ-loop
 stored-requires c κs = search needs
@@ -56,15 +64,15 @@ loop-less c = search needs
 
 loop-again : tie.Need-loop-again Inv-loop μ-loop
 loop-again c =
-    let a = c .before .before .before .before .before .before .before .before .before .args in
-    let l = c .before .before .before .before .before .before .before .loop in
-    let f = c .before .before .before .before .before .find in
+    let a = c .before .before .before .before .before .before .before .before .before .before .before .args in
+    let l = c .before .before .before .before .before .before .before .before .before .loop in
+    let f = c .before .before .before .before .before .before .before .field-from in
     let d = c .before .before .before .digits in
-    let cut = behind-next (a .line .now) (l .at) (f .result) (c .before .before .before .before .before .before .loop-test .taken) (f .ensures .0) in
-    (omega arith, omega arith, sym (gathered-more (l .count) (l .numbers) _ _ _ cut (d .result) (c .stored .result) (d .ensures) (not-false _ (c .before .if1 .left)) (c .stored .ensures)) ∙ l .inv .2)
+    let cut = behind-next (a .line .now) (l .at) (f .result .end) (c .before .before .before .before .before .before .before .before .loop-test .taken) (field-whole (a .line .now) (l .at + 1) (f .result) (f .ensures .0) (not-false _ (c .before .before .before .before .before .if1 .left))) in
+    (omega arith, omega arith, sym (gathered-more (l .count) (l .numbers) _ _ _ cut (d .result) (c .stored .result) (d .ensures) (not-false _ (c .before .if2 .left)) (c .stored .ensures)) ∙ l .inv .2)
 
-returns-2 : tie.Need-returns-2 Inv-loop μ-loop
-returns-2 c =
+returns-3 : tie.Need-returns-3 Inv-loop μ-loop
+returns-3 c =
     let a = c .before .before .before .args in
     let l = c .before .loop in
     sym (sym (l .inv .2) ∙ gathered-none (l .count) (l .numbers) _ (behind-none (a .line .now) (l .at) (omega arith)))
@@ -77,14 +85,15 @@ gather-spec =
     μ-loop
     loop-holds
     add-start
-    find-requires
+    field-from-requires
+    returns
     sub-digits
     part-digits-start
     part-digits-end
     digits-requires
-    returns
+    returns-2
     stored-requires
     add-count
     loop-less
     loop-again
-    returns-2)
+    returns-3)
