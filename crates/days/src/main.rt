@@ -2,7 +2,7 @@
 // as in farmday. The stored answers were compared with the second planner's.
 
 use libc::STDOUT_FILENO;
-use reading::find;
+use search::find;
 
 // One day: its name, then its answers.
 fn run_day(name: &[u8]) {

@@ -9,7 +9,7 @@ use lib.ListN.{length, take, drop, length-drop}
 use lib.Seq.{take-add, drop-drop, take-all}
 use Rattle.planner.specs.declared.Farm.{Farm}
 use Rattle.text.specs.Model.{newline}
-use Rattle.reading.specs.Model.{before}
+use Rattle.search.specs.Model.{this, before, nextPlace}
 use Rattle.lines.specs.Model.{Pending, part, kept, ended, Fed, behind, feed}
 
 -- ---- Blocks
@@ -45,13 +45,13 @@ keptAll p [] = p
 keptAll p (b ∷ bs) = keptAll (kept p b) bs
 
 -- bytes without a newline are kept
-pub feed-rest : (f : Farm) (p : Pending) (xs : List ℕ) → before newline xs ≡ length xs → feed f p xs ≡ record { farm = f; pending = keptAll p xs; text = [] }
+pub feed-rest : (f : Farm) (p : Pending) (xs : List ℕ) → before (this newline) xs ≡ length xs → feed f p xs ≡ record { farm = f; pending = keptAll p xs; text = [] }
 unfolding feed before keptAll
 feed-rest f p [] e = refl
 feed-rest f p (b ∷ xs) e = go (eqb b newline) e (feed-rest f (kept p b) xs)
   where
-    go : (t : Bool) → cond t 0 (suc (before newline xs)) ≡ suc (length xs)
-        → (before newline xs ≡ length xs → feed f (kept p b) xs ≡ record { farm = f; pending = keptAll (kept p b) xs; text = [] })
+    go : (t : Bool) → cond t 0 (suc (before (this newline) xs)) ≡ suc (length xs)
+        → (before (this newline) xs ≡ length xs → feed f (kept p b) xs ≡ record { farm = f; pending = keptAll (kept p b) xs; text = [] })
         → cond t (behind (ended f p .text) (feed (ended f p .farm) (part []) xs)) (feed f (kept p b) xs) ≡ record { farm = f; pending = keptAll (kept p b) xs; text = [] }
     go true e r = absurd (omega arith)
     go false e r = r (omega arith)
@@ -61,15 +61,15 @@ abbrev pub endedFed : Farm → Pending → Fed
 endedFed f p = record { farm = ended f p .farm; pending = part []; text = ended f p .text }
 
 -- bytes up to a newline, and the newline, are a line
-pub feed-line : (f : Farm) (p : Pending) (xs : List ℕ) → before newline xs < length xs
-    → feed f p (take (suc (before newline xs)) xs) ≡ endedFed f (keptAll p (take (before newline xs) xs))
+pub feed-line : (f : Farm) (p : Pending) (xs : List ℕ) → before (this newline) xs < length xs
+    → feed f p (take (suc (before (this newline) xs)) xs) ≡ endedFed f (keptAll p (take (before (this newline) xs) xs))
 unfolding feed before keptAll
 feed-line f p [] h = absurd (omega arith)
 feed-line f p (b ∷ xs) h = go (eqb b newline) refl h (feed-line f (kept p b) xs)
   where
-    go : (t : Bool) → eqb b newline ≡ t → cond t 0 (suc (before newline xs)) < suc (length xs)
-        → (before newline xs < length xs → feed f (kept p b) (take (suc (before newline xs)) xs) ≡ endedFed f (keptAll (kept p b) (take (before newline xs) xs)))
-        → feed f p (take (suc (cond t 0 (suc (before newline xs)))) (b ∷ xs)) ≡ endedFed f (keptAll p (take (cond t 0 (suc (before newline xs))) (b ∷ xs)))
+    go : (t : Bool) → eqb b newline ≡ t → cond t 0 (suc (before (this newline) xs)) < suc (length xs)
+        → (before (this newline) xs < length xs → feed f (kept p b) (take (suc (before (this newline) xs)) xs) ≡ endedFed f (keptAll (kept p b) (take (before (this newline) xs) xs)))
+        → feed f p (take (suc (cond t 0 (suc (before (this newline) xs)))) (b ∷ xs)) ≡ endedFed f (keptAll p (take (cond t 0 (suc (before (this newline) xs))) (b ∷ xs)))
     go true e h r = rw e (ap (fedWith (ended f p .farm) (part [])) (append-nil (ended f p .text)))
     go false e h r = rw e (r (omega arith))
 
@@ -85,11 +85,11 @@ stretch-join i j k l h g =
     let o : i + (j - i) ≡ j = omega arith in
     sym (rw (e, take-add (j - i) (k - j) (drop i l), drop-drop (j - i) i l, o))
 
-module _ (f : Farm) (p : Pending) (block : List ℕ) (from i end : ℕ) (x : Fed) (h : from ≤ i) (e : end ≡ i + before newline (drop i block)) (r : feed f p (stretch from i block) ≡ x) where
+module _ (f : Farm) (p : Pending) (block : List ℕ) (from i end : ℕ) (x : Fed) (h : from ≤ i) (e : end ≡ nextPlace (this newline) block i) (r : feed f p (stretch from i block) ≡ x) where
   -- The bytes up to the next newline, and that newline, end a line.
   pub fed-line : end < length block → feed f p (stretch from (end + 1) block) ≡ behind (x .text) (endedFed (x .farm) (keptAll (x .pending) (stretch i end block)))
   fed-line k =
-      let n = before newline (drop i block) in
+      let n = before (this newline) (drop i block) in
       let inside : n < length (drop i block) = omega (arith, length-drop i block) in
       let to : end + 1 - i ≡ suc n = omega arith in
       let at : end - i ≡ n = omega arith in
@@ -101,7 +101,7 @@ module _ (f : Farm) (p : Pending) (block : List ℕ) (from i end : ℕ) (x : Fed
   -- Where no newline is left the bytes are kept.
   pub fed-rest : end ≡ length block → feed f p (stretch from end block) ≡ behind (x .text) (record { farm = x .farm; pending = keptAll (x .pending) (stretch i end block); text = [] })
   fed-rest k =
-      let n = before newline (drop i block) in
+      let n = before (this newline) (drop i block) in
       let all : n ≡ length (drop i block) = omega (arith, length-drop i block) in
       let whole : stretch i end block ≡ drop i block = take-all (end - i) (drop i block) (omega arith) in
       ap (feed f p) (sym (stretch-join from i end block h (omega arith)))

@@ -11,7 +11,7 @@ use lib.ListN.{length, take, drop}
 use Rattle.planner.specs.declared.Farm.{Farm}
 use Rattle.text.specs.Model.{newline}
 use Rattle.text.specs.Writing.{WroteWithin, wrote-none, wrote-same, wrote-join, wrote-length, within-same}
-use Rattle.reading.specs.Model.{before}
+use Rattle.search.specs.Model.{this, nextPlace}
 use Rattle.lines.specs.declared.Rest.{Rest}
 use Rattle.protocol.specs.declared.Session.{Session}
 use Rattle.protocol.specs.declared.Progress.{Progress}
@@ -71,7 +71,7 @@ module _ {f : Farm} {r : Rest} {block : List ℕ} {from : ℕ} {entry : List ℕ
     wrote = g .wrote;
   }
 
-  module _ {end : ℕ} (line : Rest) (e : end ≡ next + before newline (drop next block)) (l : pendingOf line ≡ keptAll (pendingOf rest) (stretch next end block)) where
+  module _ {end : ℕ} (line : Rest) (e : end ≡ nextPlace (this newline) block next) (l : pendingOf line ≡ keptAll (pendingOf rest) (stretch next end block)) where
     kept-line : keptAll (soFar .pending) (stretch next end block) ≡ pendingOf line
     kept-line = ap (λ (p : Pending). keptAll p (stretch next end block)) (g .pending) ∙ sym l
 

@@ -22,7 +22,7 @@ use lines::step::offered;
 use lines::step::opening;
 use planner::Farm;
 use reading::Kind;
-use reading::find;
+use search::find;
 use timetable::lines::write_rows;
 
 // The start of a day: an unopened farm, and nothing of a line. The farm is the one that a refused opening hands back.

@@ -9,7 +9,7 @@ use borrow.Author.Tests.{leb-true, eqb-true}
 use lib.Dec.{leb, eqb}
 use lib.ListN.{length, take, replicate, length-append, length-take, length-replicate}
 use Rattle.lists.specs.Laws.{All, all-take, all-join}
-use Rattle.search.specs.Model.{this, upTo}
+use Rattle.search.specs.Model.{this, before}
 use Rattle.text.specs.Model.{tab, valueFrom, value}
 use Rattle.reading.specs.declared.Row.{Row}
 use Rattle.reading.specs.declared.Kind.{Kind}
@@ -48,31 +48,31 @@ joined-fields (b ∷ bs) = joined-step (eqb b tab) b bs refl (joined-fields bs)
 
 -- no tab in it
 abbrev pub Tabless : List ℕ → Type 0
-Tabless f = upTo (this tab) f ≡ length f
+Tabless f = before (this tab) f ≡ length f
 
 tabless-first : (b : ℕ) (fs : List (List ℕ)) → eqb b tab ≡ false → All Tabless fs → All Tabless (onFirst b fs)
-unfolding upTo
+unfolding before
 tabless-first b [] e h = (rw e, tt)
 tabless-first b (f ∷ fs) e h = (rw (e, h .0), h .1)
 
 tabless-step : (t : Bool) (b : ℕ) (bs : List ℕ) → eqb b tab ≡ t → All Tabless (fields bs) → All Tabless (cond t ([] ∷ fields bs) (onFirst b (fields bs)))
-unfolding upTo
+unfolding before
 tabless-step true b bs e h = (refl, h)
 tabless-step false b bs e h = tabless-first b (fields bs) e h
 
 -- No field holds a tab.
 pub fields-tabless : (bs : List ℕ) → All Tabless (fields bs)
-unfolding fields upTo
+unfolding fields before
 fields-tabless [] = (refl, tt)
 fields-tabless (b ∷ bs) = tabless-step (eqb b tab) b bs refl (fields-tabless bs)
 
-front-step : (t : Bool) (b : ℕ) (f rest : List ℕ) (fs : List (List ℕ)) → cond t 0 (suc (upTo (this tab) f)) ≡ suc (length f)
+front-step : (t : Bool) (b : ℕ) (f rest : List ℕ) (fs : List (List ℕ)) → cond t 0 (suc (before (this tab) f)) ≡ suc (length f)
     → (Tabless f → fields (f ++ rest) ≡ f ∷ fs) → cond t ([] ∷ fields (f ++ rest)) (onFirst b (fields (f ++ rest))) ≡ (b ∷ f) ∷ fs
 front-step true b f rest fs h k = absurd (omega arith)
 front-step false b f rest fs h k = ap (onFirst b) (k (omega arith))
 
 fields-front : (f rest : List ℕ) (fs : List (List ℕ)) → Tabless f → fields rest ≡ [] ∷ fs → fields (f ++ rest) ≡ f ∷ fs
-unfolding fields upTo
+unfolding fields before
 fields-front [] rest fs h k = k
 fields-front (b ∷ f) rest fs h k = front-step (eqb b tab) b f rest fs h (λ l. fields-front f rest fs l k)
 

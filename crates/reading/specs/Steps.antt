@@ -10,7 +10,7 @@ use borrow.Author.Tests.{le-leb, lt-leb, eq-eqb, ne-eqb}
 use lib.Dec.{leb, eqb}
 use lib.ListN.{length, getD, take, drop, set, replicate, length-map}
 use lib.Seq.{sets, drop-cons, drop-length, drop-drop, take-nil}
-use Rattle.search.specs.Model.{this, upTo}
+use Rattle.search.specs.Model.{this, before}
 use Rattle.text.specs.Model.{tab, valueFrom, value, padded}
 use Rattle.reading.specs.declared.Number.{Number}
 use Rattle.reading.specs.declared.Numbers.{Numbers}
@@ -99,23 +99,23 @@ abbrev pub behind : List ℕ → List (List ℕ)
 behind [] = []
 behind (b ∷ bs) = fields bs
 
-cut-step : (t : Bool) (b : ℕ) (bs : List ℕ) → fields bs ≡ take (upTo (this tab) bs) bs ∷ behind (drop (upTo (this tab) bs) bs)
-    → cond t ([] ∷ fields bs) (onFirst b (fields bs)) ≡ take (cond t 0 (suc (upTo (this tab) bs))) (b ∷ bs) ∷ behind (drop (cond t 0 (suc (upTo (this tab) bs))) (b ∷ bs))
+cut-step : (t : Bool) (b : ℕ) (bs : List ℕ) → fields bs ≡ take (before (this tab) bs) bs ∷ behind (drop (before (this tab) bs) bs)
+    → cond t ([] ∷ fields bs) (onFirst b (fields bs)) ≡ take (cond t 0 (suc (before (this tab) bs))) (b ∷ bs) ∷ behind (drop (cond t 0 (suc (before (this tab) bs))) (b ∷ bs))
 cut-step true b bs h = refl
 cut-step false b bs h = ap (onFirst b) h
 
 -- The first field goes up to the first tab.
-pub fields-cut : (xs : List ℕ) → fields xs ≡ take (upTo (this tab) xs) xs ∷ behind (drop (upTo (this tab) xs) xs)
-unfolding fields upTo
+pub fields-cut : (xs : List ℕ) → fields xs ≡ take (before (this tab) xs) xs ∷ behind (drop (before (this tab) xs) xs)
+unfolding fields before
 fields-cut [] = refl
 fields-cut (b ∷ bs) = cut-step (eqb b tab) b bs (fields-cut bs)
 
 -- The next field behind the tab at i goes up to the next tab, at t.
-pub behind-next : (xs : List ℕ) (i t : ℕ) → i < length xs → t ≡ i + 1 + upTo (this tab) (drop (i + 1) xs)
+pub behind-next : (xs : List ℕ) (i t : ℕ) → i < length xs → t ≡ i + 1 + before (this tab) (drop (i + 1) xs)
     → behind (drop i xs) ≡ take (t - (i + 1)) (drop (i + 1) xs) ∷ behind (drop t xs)
 behind-next xs i t h e =
-    let w : t - (i + 1) ≡ upTo (this tab) (drop (i + 1) xs) = omega arith in
-    rw (w, e, ← drop-drop (upTo (this tab) (drop (i + 1) xs)) (i + 1) xs, drop-cons xs i 0 h, ← add-one i) (fields-cut (drop (i + 1) xs))
+    let w : t - (i + 1) ≡ before (this tab) (drop (i + 1) xs) = omega arith in
+    rw (w, e, ← drop-drop (before (this tab) (drop (i + 1) xs)) (i + 1) xs, drop-cons xs i 0 h, ← add-one i) (fields-cut (drop (i + 1) xs))
 
 pub behind-none : (xs : List ℕ) (i : ℕ) → i ≡ length xs → behind (drop i xs) ≡ []
 behind-none xs i e = rw (e, drop-length xs)
@@ -185,8 +185,8 @@ sets-zeros (suc n) (v ∷ vs) =
     let z : suc n - suc (length vs) ≡ n - length vs = omega arith in
     rw z (sets-cons v (replicate n 0) 0 vs ∙ ap (λ (l : List ℕ). v ∷ l) (sets-zeros n vs))
 
-module _ (xs : List ℕ) (e : ℕ) (k : Kind) (x : Numbers) (cut : e ≡ 0 + upTo (this tab) xs) (word : k ≡ kindOf (take (e - 0) xs)) (all : x ≡ gathered 0 (replicate 39 0) (behind (drop e xs))) where
-  at-tab : upTo (this tab) xs ≡ e
+module _ (xs : List ℕ) (e : ℕ) (k : Kind) (x : Numbers) (cut : e ≡ 0 + before (this tab) xs) (word : k ≡ kindOf (take (e - 0) xs)) (all : x ≡ gathered 0 (replicate 39 0) (behind (drop e xs))) where
+  at-tab : before (this tab) xs ≡ e
   at-tab = omega arith
 
   first-is : lineKind xs ≡ k

@@ -14,10 +14,10 @@ abbrev pub either : ℕ → ℕ → ℕ → Bool
 either a b x = eqb x a || eqb x b
 
 -- how many bytes stand before the first wanted one; all of them where there is none
-unfoldable pub upTo : (ℕ → Bool) → List ℕ → ℕ
-upTo p [] = 0
-upTo p (x ∷ xs) = cond (p x) 0 (suc (upTo p xs))
+unfoldable pub before : (ℕ → Bool) → List ℕ → ℕ
+before p [] = 0
+before p (x ∷ xs) = cond (p x) 0 (suc (before p xs))
 
 -- the first place at or after `from` that holds a wanted byte; the length where there is none, and `from` where that is past the end
 abbrev pub nextPlace : (ℕ → Bool) → List ℕ → ℕ → ℕ
-nextPlace p xs from = from + upTo p (drop from xs)
+nextPlace p xs from = from + before p (drop from xs)

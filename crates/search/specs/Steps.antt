@@ -11,34 +11,34 @@ use lib.Dec.{eqb}
 use lib.ListN.{length, take, drop, getD}
 use lib.Seq.{drop-cons, drop-drop, take-add}
 use lib.Count.{trailingZeros}
-use Rattle.search.specs.Model.{this, either, upTo}
+use Rattle.search.specs.Model.{this, either, before}
 use Rattle.search.specs.Words.{bytesOf, Exact, bytes-cons, bytes-append, bytes-length}
 
 -- ---- One byte
 
 module _ (a b : ℕ) (xs : List ℕ) (i : ℕ) (h : i < length xs) where
-  up-cons : upTo (either a b) (drop i xs) ≡ cond (either a b (getD xs i 0)) 0 (suc (upTo (either a b) (drop (i + 1) xs)))
-  unfolding upTo
-  up-cons = rw (add-one, drop-cons xs i 0 h)
+  before-cons : before (either a b) (drop i xs) ≡ cond (either a b (getD xs i 0)) 0 (suc (before (either a b) (drop (i + 1) xs)))
+  unfolding before
+  before-cons = rw (add-one, drop-cons xs i 0 h)
 
-  pub up-stop : getD xs i 0 ≡ a → upTo (either a b) (drop i xs) ≡ 0
-  up-stop e = up-cons ∙ rw (eq-eqb (getD xs i 0) a e)
+  pub before-stop : getD xs i 0 ≡ a → before (either a b) (drop i xs) ≡ 0
+  before-stop e = before-cons ∙ rw (eq-eqb (getD xs i 0) a e)
 
-  pub up-stop-second : (getD xs i 0 ≡ a → ⊥) → getD xs i 0 ≡ b → upTo (either a b) (drop i xs) ≡ 0
-  up-stop-second n e = up-cons ∙ rw (ne-eqb (getD xs i 0) a n, eq-eqb (getD xs i 0) b e)
+  pub before-stop-second : (getD xs i 0 ≡ a → ⊥) → getD xs i 0 ≡ b → before (either a b) (drop i xs) ≡ 0
+  before-stop-second n e = before-cons ∙ rw (ne-eqb (getD xs i 0) a n, eq-eqb (getD xs i 0) b e)
 
-  pub up-more : (getD xs i 0 ≡ a → ⊥) → (getD xs i 0 ≡ b → ⊥) → upTo (either a b) (drop i xs) ≡ suc (upTo (either a b) (drop (i + 1) xs))
-  up-more n m = up-cons ∙ rw (ne-eqb (getD xs i 0) a n, ne-eqb (getD xs i 0) b m)
+  pub before-more : (getD xs i 0 ≡ a → ⊥) → (getD xs i 0 ≡ b → ⊥) → before (either a b) (drop i xs) ≡ suc (before (either a b) (drop (i + 1) xs))
+  before-more n m = before-cons ∙ rw (ne-eqb (getD xs i 0) a n, ne-eqb (getD xs i 0) b m)
 
 same-step : (w : Bool) (m n : ℕ) → m ≡ n → cond w 0 (suc m) ≡ cond (w || w) 0 (suc n)
 same-step true m n e = refl
 same-step false m n e = ap suc e
 
 -- One byte is asked for twice.
-pub up-same : (b : ℕ) (xs : List ℕ) → upTo (this b) xs ≡ upTo (either b b) xs
-unfolding upTo
-up-same b [] = refl
-up-same b (x ∷ xs) = same-step (eqb x b) (upTo (this b) xs) (upTo (either b b) xs) (up-same b xs)
+pub before-same : (b : ℕ) (xs : List ℕ) → before (this b) xs ≡ before (either b b) xs
+unfolding before
+before-same b [] = refl
+before-same b (x ∷ xs) = same-step (eqb x b) (before (this b) xs) (before (either b b) xs) (before-same b xs)
 
 -- ---- Eight bytes
 
@@ -69,26 +69,26 @@ take-step true m n k h l = refl
 take-step false m n k h l = ap suc (h (omega arith))
 
 -- what is wanted stands among the first n
-up-take : (p : ℕ → Bool) (n : ℕ) (xs : List ℕ) → upTo p (take n xs) < length (take n xs) → upTo p xs ≡ upTo p (take n xs)
-unfolding upTo
-up-take p zero xs h = absurd (omega arith)
-up-take p (suc n) [] h = refl
-up-take p (suc n) (x ∷ xs) h = take-step (p x) (upTo p (take n xs)) (upTo p xs) (length (take n xs)) (up-take p n xs) h
+before-take : (p : ℕ → Bool) (n : ℕ) (xs : List ℕ) → before p (take n xs) < length (take n xs) → before p xs ≡ before p (take n xs)
+unfolding before
+before-take p zero xs h = absurd (omega arith)
+before-take p (suc n) [] h = refl
+before-take p (suc n) (x ∷ xs) h = take-step (p x) (before p (take n xs)) (before p xs) (length (take n xs)) (before-take p n xs) h
 
 skip-step : (w : Bool) (m n k d : ℕ) → (m ≡ k → n ≡ k + d) → cond w 0 (suc m) ≡ suc k → cond w 0 (suc n) ≡ suc k + d
 skip-step true m n k d h l = absurd (omega arith)
 skip-step false m n k d h l = omega (arith, h (omega arith))
 
 -- it does not
-up-skip : (p : ℕ → Bool) (n : ℕ) (xs : List ℕ) → upTo p (take n xs) ≡ length (take n xs) → upTo p xs ≡ length (take n xs) + upTo p (drop n xs)
-unfolding upTo
-up-skip p zero xs h = omega arith
-up-skip p (suc n) [] h = refl
-up-skip p (suc n) (x ∷ xs) h = skip-step (p x) (upTo p (take n xs)) (upTo p xs) (length (take n xs)) (upTo p (drop n xs)) (up-skip p n xs) h
+before-skip : (p : ℕ → Bool) (n : ℕ) (xs : List ℕ) → before p (take n xs) ≡ length (take n xs) → before p xs ≡ length (take n xs) + before p (drop n xs)
+unfolding before
+before-skip p zero xs h = omega arith
+before-skip p (suc n) [] h = refl
+before-skip p (suc n) (x ∷ xs) h = skip-step (p x) (before p (take n xs)) (before p xs) (length (take n xs)) (before p (drop n xs)) (before-skip p n xs) h
 
 -- what is wanted stands in the word from place i on, in the byte of the lowest bit of t
 abbrev pub Found : (ℕ → Bool) → List ℕ → ℕ → ℕ → Type 0
-Found p xs i t = (trailingZeros 64 t / 8 ≡ upTo p (drop i xs)) × (upTo p (drop i xs) < 8)
+Found p xs i t = (trailingZeros 64 t / 8 ≡ before p (drop i xs)) × (before p (drop i xs) < 8)
 
 module _ (p : ℕ → Bool) (xs : List ℕ) (i w t : ℕ) (word : bytesOf 8 w ≡ take 8 (drop i xs)) (marks : Exact p (bytesOf 8 w) t) where
   eight-long : length (take 8 (drop i xs)) ≡ 8
@@ -97,13 +97,13 @@ module _ (p : ℕ → Bool) (xs : List ℕ) (i w t : ℕ) (word : bytesOf 8 w �
   -- Some mark: it stands in the word, at the lowest mark.
   pub word-found : (t ≡ 0 → ⊥) → Found p xs i t
   word-found n =
-      let l : upTo p (take 8 (drop i xs)) < 8 = rw word at (marks .some n) in
-      let e : upTo p (drop i xs) ≡ upTo p (take 8 (drop i xs)) = up-take p 8 (drop i xs) (omega (arith, eight-long)) in
-      let f : trailingZeros 64 t / 8 ≡ upTo p (take 8 (drop i xs)) = rw word at (marks .first n) in
+      let l : before p (take 8 (drop i xs)) < 8 = rw word at (marks .some n) in
+      let e : before p (drop i xs) ≡ before p (take 8 (drop i xs)) = before-take p 8 (drop i xs) (omega (arith, eight-long)) in
+      let f : trailingZeros 64 t / 8 ≡ before p (take 8 (drop i xs)) = rw word at (marks .first n) in
       (f ∙ sym e, omega arith)
 
   -- No mark: it stands behind the word.
-  pub word-passed : t ≡ 0 → upTo p (drop i xs) ≡ 8 + upTo p (drop (i + 8) xs)
+  pub word-passed : t ≡ 0 → before p (drop i xs) ≡ 8 + before p (drop (i + 8) xs)
   word-passed z =
-      let f : upTo p (take 8 (drop i xs)) ≡ 8 = rw word at (marks .none z) in
-      rw (eight-long, drop-drop) at (up-skip p 8 (drop i xs) (f ∙ sym eight-long))
+      let f : before p (take 8 (drop i xs)) ≡ 8 = rw word at (marks .none z) in
+      rw (eight-long, drop-drop) at (before-skip p 8 (drop i xs) (f ∙ sym eight-long))

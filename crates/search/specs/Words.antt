@@ -11,7 +11,7 @@ use lib.Dec.{eqb, lit<}
 use lib.ListN.{length}
 use lib.Bits.{bitAnd, bitOr, bitXor, and-block, or-block, xor-block, and-zero-r, and-comm, and-shifted, xor-self, xor-lt, xor-add-and, and-le-l, and-le-r, shifted-half, shifted-even}
 use lib.Count.{trailingZeros}
-use Rattle.search.specs.Model.{this, either, upTo}
+use Rattle.search.specs.Model.{this, either, before}
 
 -- the n lowest bytes of a word, the lowest first
 unfoldable pub bytesOf : ℕ → ℕ → List ℕ
@@ -25,9 +25,9 @@ Marks p (b ∷ bs) t = (u : ℕ) × (t ≡ u * 256 + cond (p b) 128 0) × (p b �
 
 -- of eight bytes: t is 0 exactly where none is wanted, and its lowest bit stands in the first that is
 pub record Exact (p : ℕ → Bool) (bs : List ℕ) (t : ℕ) : Type 0 where
-  pub none : t ≡ 0 → upTo p bs ≡ 8
-  pub some : (t ≡ 0 → ⊥) → upTo p bs < 8
-  pub first : (t ≡ 0 → ⊥) → trailingZeros 64 t / 8 ≡ upTo p bs
+  pub none : t ≡ 0 → before p bs ≡ 8
+  pub some : (t ≡ 0 → ⊥) → before p bs < 8
+  pub first : (t ≡ 0 → ⊥) → trailingZeros 64 t / 8 ≡ before p bs
 
 -- ---- A word of bytes
 
@@ -93,28 +93,28 @@ first-step : (w : Bool) (k u m : ℕ) → (w ≡ false → Eighth m (trailingZer
 first-step true k u m h = (omega arith, omega (arith, trailing-top k u))
 first-step false k u m h = let i = h refl in (omega (arith, trailing-next k u), omega (arith, trailing-next k u))
 
-first-mark : (p : ℕ → Bool) (bs : List ℕ) (t : ℕ) → Marks p bs t → Eighth (upTo p bs) (trailingZeros (bits (length bs)) t)
-unfolding upTo trailingZeros bits
+first-mark : (p : ℕ → Bool) (bs : List ℕ) (t : ℕ) → Marks p bs t → Eighth (before p bs) (trailingZeros (bits (length bs)) t)
+unfolding before trailingZeros bits
 first-mark p [] t h = (omega arith, omega arith)
-first-mark p (b ∷ bs) t (u, e, h) = rw e (first-step (p b) (bits (length bs)) u (upTo p bs) (λ w. first-mark p bs u (h w)))
+first-mark p (b ∷ bs) t (u, e, h) = rw e (first-step (p b) (bits (length bs)) u (before p bs) (λ w. first-mark p bs u (h w)))
 
 some-step : (w : Bool) (u m n t : ℕ) → t ≡ u * 256 + cond w 128 0 → (w ≡ false → (u ≡ 0 → ⊥) → m < n) → (t ≡ 0 → ⊥) → cond w 0 (suc m) < suc n
 some-step true u m n t e h k = omega arith
 some-step false u m n t e h k = let i : m < n = h refl (λ z. k (omega arith)) in omega arith
 
-some-mark : (p : ℕ → Bool) (bs : List ℕ) (t : ℕ) → Marks p bs t → (t ≡ 0 → ⊥) → upTo p bs < length bs
-unfolding upTo
+some-mark : (p : ℕ → Bool) (bs : List ℕ) (t : ℕ) → Marks p bs t → (t ≡ 0 → ⊥) → before p bs < length bs
+unfolding before
 some-mark p [] t h k = absurd (k h)
-some-mark p (b ∷ bs) t (u, e, h) k = some-step (p b) u (upTo p bs) (length bs) t e (λ w n. some-mark p bs u (h w) n) k
+some-mark p (b ∷ bs) t (u, e, h) k = some-step (p b) u (before p bs) (length bs) t e (λ w n. some-mark p bs u (h w) n) k
 
 none-step : (w : Bool) (u m n t : ℕ) → t ≡ u * 256 + cond w 128 0 → (w ≡ false → u ≡ 0 → m ≡ n) → t ≡ 0 → cond w 0 (suc m) ≡ suc n
 none-step true u m n t e h k = absurd (omega arith)
 none-step false u m n t e h k = ap suc (h refl (omega arith))
 
-no-mark : (p : ℕ → Bool) (bs : List ℕ) (t : ℕ) → Marks p bs t → t ≡ 0 → upTo p bs ≡ length bs
-unfolding upTo
+no-mark : (p : ℕ → Bool) (bs : List ℕ) (t : ℕ) → Marks p bs t → t ≡ 0 → before p bs ≡ length bs
+unfolding before
 no-mark p [] t h k = refl
-no-mark p (b ∷ bs) t (u, e, h) k = none-step (p b) u (upTo p bs) (length bs) t e (λ w n. no-mark p bs u (h w) n) k
+no-mark p (b ∷ bs) t (u, e, h) k = none-step (p b) u (before p bs) (length bs) t e (λ w n. no-mark p bs u (h w) n) k
 
 -- The marks of eight bytes are exact.
 marks-exact : (p : ℕ → Bool) (bs : List ℕ) (t : ℕ) → length bs ≡ 8 → Marks p bs t → Exact p bs t
@@ -122,7 +122,7 @@ unfolding bits
 marks-exact p bs t e h = record {
   none = λ z. no-mark p bs t h z ∙ e;
   some = λ n. rw e at (some-mark p bs t h n);
-  first = λ n. eighth (upTo p bs) (trailingZeros 64 t) (rw e at (first-mark p bs t h));
+  first = λ n. eighth (before p bs) (trailingZeros 64 t) (rw e at (first-mark p bs t h));
 }
 
 -- ---- Marks of two bytes

@@ -1,7 +1,10 @@
 -- `days::run_all` meets its contract.
 use borrow.Author.Needs.{needs}
-use Prim.Native.Nat.{_-_}
+use Prim.Native.Nat.{_-_, _≤_}
+use native.Mathlib.Omega.{arith}
 use lib.ListN.{length}
+use Rattle.search.specs.Model.{this}
+use Rattle.search.specs.Laws.{next-within}
 use Rattle.days.proofs.run_all.Statement.{statement}
 use Rattle.days.proofs.run_all.Tie as tie
 
@@ -23,14 +26,22 @@ sub-run-day c = search needs
 part-run-day-start : tie.Need-part-run-day-start Inv-loop μ-loop
 part-run-day-start c = search needs
 
+-- the place from which a need goes
+abbrev From : {A : Type 0} {B : A → Type 0} → ((x : A) → B x) → Type 0
+From {A} {B} f = A
+
+-- A name ends in the list, or with it.
+within : (c : From part-run-day-start) → c .find .result ≤ length (c .before .before .before .before .args .names .now)
+within c = rw (c .find .ensures) (next-within (this 10) (c .before .before .before .before .args .names .now) (c .before .before .loop .next) (omega arith))
+
 part-run-day-end : tie.Need-part-run-day-end Inv-loop μ-loop
-part-run-day-end c = search needs
+part-run-day-end c = let w = within c in search needs
 
 run-day-requires : tie.Need-run-day-requires Inv-loop μ-loop
 run-day-requires c κs = search needs
 
 add-next : tie.Need-add-next Inv-loop μ-loop
-add-next c = search needs
+add-next c = let w = within (c .before .before) in search needs
 
 loop-less : tie.Need-loop-less Inv-loop μ-loop
 loop-less c = search needs

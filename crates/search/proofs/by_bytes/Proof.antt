@@ -4,8 +4,8 @@ use Prim.Native.Nat.{_-_}
 use native.Mathlib.Omega.{arith}
 use lib.ListN.{length}
 use Rattle.search.specs.Model.{either, nextPlace}
-use Rattle.search.specs.Laws.{up-end}
-use Rattle.search.specs.Steps.{up-stop, up-stop-second, up-more}
+use Rattle.search.specs.Laws.{before-end}
+use Rattle.search.specs.Steps.{before-stop, before-stop-second, before-more}
 use borrow.Author.Needs.{needs}
 use Rattle.search.proofs.by_bytes.Statement.{statement}
 use Rattle.search.proofs.by_bytes.Tie as tie
@@ -26,13 +26,13 @@ returns : tie.Need-returns Inv-loop μ-loop
 returns c =
     let a = c .before .before .before .before .args in
     let l = c .before .before .before .loop in
-    omega (arith, up-stop (a .a) (a .b) (a .text .now) (l .i) (c .before .before .loop-test .taken) (c .if1 .taken))
+    omega (arith, before-stop (a .a) (a .b) (a .text .now) (l .i) (c .before .before .loop-test .taken) (c .if1 .taken))
 
 returns-2 : tie.Need-returns-2 Inv-loop μ-loop
 returns-2 c =
     let a = c .before .before .before .before .before .args in
     let l = c .before .before .before .before .loop in
-    omega (arith, up-stop-second (a .a) (a .b) (a .text .now) (l .i) (c .before .before .before .loop-test .taken) (c .before .if1 .left) (c .if2 .taken))
+    omega (arith, before-stop-second (a .a) (a .b) (a .text .now) (l .i) (c .before .before .before .loop-test .taken) (c .before .if1 .left) (c .if2 .taken))
 
 add-i : tie.Need-add-i Inv-loop μ-loop
 add-i c = search needs
@@ -44,12 +44,12 @@ loop-again : tie.Need-loop-again Inv-loop μ-loop
 loop-again c =
     let a = c .before .before .before .before .before .args in
     let l = c .before .before .before .before .loop in
-    omega (arith, up-more (a .a) (a .b) (a .text .now) (l .i) (c .before .before .before .loop-test .taken) (c .before .if1 .left) (c .if2 .left))
+    omega (arith, before-more (a .a) (a .b) (a .text .now) (l .i) (c .before .before .before .loop-test .taken) (c .before .if1 .left) (c .if2 .left))
 
 returns-3 : tie.Need-returns-3 Inv-loop μ-loop
 returns-3 c =
     let a = c .before .before .args in
-    omega (arith, up-end (either (a .a) (a .b)) (a .text .now) (c .before .loop .i) (omega arith))
+    omega (arith, before-end (either (a .a) (a .b)) (a .text .now) (c .before .loop .i) (omega arith))
 
 pub by-bytes-spec : {M : Type 1} → statement M
 by-bytes-spec =

@@ -7,6 +7,9 @@ use Prim.Native.Nat.{ℕ, _+_, _-_, _≤_, _<_}
 use native.Mathlib.Omega.{arith}
 use borrow.Author.Tests.{not-true, not-false}
 use lib.ListN.{length, getD}
+use Rattle.search.specs.Model.{this}
+use Rattle.search.specs.Laws.{next-within}
+use Rattle.text.specs.Model.{newline}
 use Rattle.text.specs.Writing.{WroteWithin, within-same}
 use Rattle.reading.specs.declared.Kind.{Kind}
 use Rattle.reading.specs.declared.Row.{Row}
@@ -92,13 +95,21 @@ Onward t later place back =
     let a = entry t .args in
     DayAt (a .session .farm) (a .session .rest) (a .block .now) (a .from) (a .out .now) later (record { fill = 0; bytes = line t .loop .rest .bytes }) (end t + 1) place back × (length (a .out .now) - 164000 + 164000 ≡ length (a .out .now))
 
+-- where the end of a line is found
+abbrev Found : Type 0
+Found = To (λ (t : Turn). t .before .before .before .before)
+
+-- It is in the block, or the block's end.
+within : (c : Found) → c .find .result ≤ length (c .before .before .before .before .before .before .before .before .before .args .block .now)
+within c = rw (c .find .ensures) (next-within (this newline) (c .before .before .before .before .before .before .before .before .before .args .block .now) (c .before .before .before .loop .next) (omega (arith, c .before .before .loop-test .taken)))
+
 module _ (t : Turn) where
   inside : end t < length (entry t .args .block .now)
-  inside = omega (arith, t .before .before .before .before .find .ensures .1, t .before .before .if3 .left)
+  inside = omega (arith, within (t .before .before .before .before), t .before .before .if3 .left)
 
   -- Less of the block is left.
   less : length (entry t .args .block .now) - (end t + 1) < length (entry t .args .block .now) - line t .loop .next
-  less = omega (arith, t .before .before .before .before .find .ensures .0, inside)
+  less = omega (arith, t .before .before .before .before .find .ensures, inside)
 
   -- The largest answer fits.
   room : line t .loop .at + 164000 ≤ length (line t .loop .out)
@@ -111,7 +122,7 @@ module _ (t : Turn) where
       let i = line t .loop .inv in
       let w = t .before .before .before .with-bytes in
       let said = rest-row (farm t) (w .result) ∙ ap (byRow (farm t)) (sym (t .before .row-of .ensures)) ∙ b in
-      (day-line (i .0) (w .result) (t .before .before .before .before .find .ensures .0) (w .ensures) inside said d refl p (omega (arith, p .within, room, i .0 .size)), i .1)
+      (day-line (i .0) (w .result) (t .before .before .before .before .find .ensures) (w .ensures) inside said d refl p (omega (arith, p .within, room, i .0 .size)), i .1)
 
 module _ (n : Choice) where
   abbrev turn : Turn
@@ -186,7 +197,7 @@ find-requires : tie.Need-find-requires Inv-loop μ-loop
 find-requires c κs = omega arith
 
 with-bytes-requires : tie.Need-with-bytes-requires Inv-loop μ-loop
-with-bytes-requires c κs = (omega (arith, c .find .ensures .0), c .find .ensures .1)
+with-bytes-requires c κs = (omega (arith, c .find .ensures), within c)
 
 same-length-2 : tie.Need-same-length-2 Inv-loop μ-loop
 same-length-2 c = search needs
@@ -194,10 +205,10 @@ same-length-2 c = search needs
 returns-3 : tie.Need-returns-3 Inv-loop μ-loop
 returns-3 c =
     let w = c .before .with-bytes in
-    day-rest (c .before .before .before .before .before .loop .inv .0) (w .result) (c .before .before .find .ensures .0) (w .ensures) (c .if3 .taken)
+    day-rest (c .before .before .before .before .before .loop .inv .0) (w .result) (c .before .before .find .ensures) (w .ensures) (c .if3 .taken)
 
 add-next : tie.Need-add-next Inv-loop μ-loop
-add-next c = search needs
+add-next c = let w = within (c .before .before) in search needs
 
 row-of-requires : tie.Need-row-of-requires Inv-loop μ-loop
 row-of-requires c κs = search needs
