@@ -10,6 +10,7 @@ use crate::program::Session;
 use crate::quick::Quick;
 use crate::random::Random;
 use crate::share::Costs;
+use crate::spelling::Spelling;
 use crate::text;
 
 /// The kinds of day, in turn.
@@ -20,6 +21,9 @@ pub fn day(seed: u64) -> Vec<u8> {
     let mut day = Day::new(seed);
     if day.random.once_in(200) {
         return Vec::new();
+    }
+    for line in day.spelling.long_lines() {
+        day.raw(&line);
     }
     if day.random.once_in(3) {
         day.before_opening();
@@ -59,6 +63,7 @@ struct Day {
     quoting: bool,
     /// So small that the exhaustive walk can run it.
     tiny: bool,
+    spelling: Spelling,
 }
 
 /// What an offer takes.
@@ -92,6 +97,7 @@ impl Day {
             returning: !random.once_in(5),
             quoting: seed / (2 * KINDS) % 4 != 3,
             tiny: false,
+            spelling: Spelling::new(seed),
             random,
             bytes: Vec::new(),
             session: Session::default(),
@@ -108,14 +114,21 @@ impl Day {
         self.session.answers().clear();
     }
 
-    fn line(&mut self, kind: &[u8], numbers: &[u64]) {
-        let line = line(kind, numbers);
+    /// Writes a line as the day spells it, at times behind an odd one.
+    fn spelled(&mut self, line: &[u8]) {
+        let line = self.spelling.of(line);
+        if let Some(odd) = self.spelling.odd_before(&line) {
+            self.raw(&odd);
+        }
         self.raw(&line);
     }
 
+    fn line(&mut self, kind: &[u8], numbers: &[u64]) {
+        self.spelled(&line(kind, numbers));
+    }
+
     fn open(&mut self, nodes: u64, costs: Costs, allowances: &[u64]) {
-        let line = farm_line(nodes, costs, allowances);
-        self.raw(&line);
+        self.spelled(&farm_line(nodes, costs, allowances));
     }
 
     /// An offer with some compute cost or none.
@@ -143,7 +156,7 @@ impl Day {
         if self.quotes_once_in(2) {
             self.quotes(offer);
         }
-        self.raw(&offer.line(b"job"));
+        self.spelled(&offer.line(b"job"));
     }
 
     fn clock_to(&mut self, time: u64) {
@@ -158,6 +171,9 @@ impl Day {
     fn end(mut self) -> Vec<u8> {
         if self.random.once_in(4) {
             self.bytes.pop();
+        } else {
+            let last = self.spelling.broken_off(&self.bytes);
+            self.bytes.extend_from_slice(&last);
         }
         self.bytes
     }
@@ -999,9 +1015,9 @@ impl Day {
     fn quotes(&mut self, offer: Offer) {
         for _ in 0..self.random.pick(&[0, 0, 0, 1, 2, 3]) {
             let deadline = self.deadline_beside(offer.deadline);
-            self.raw(&offer.by(deadline).line(b"quote"));
+            self.spelled(&offer.by(deadline).line(b"quote"));
         }
-        self.raw(&offer.line(b"quote"));
+        self.spelled(&offer.line(b"quote"));
     }
 
     fn quote_something(&mut self) {

@@ -1,5 +1,5 @@
 //! A second scheduler for the release farm, made from document 01 and requests (i)
-//! to (iv) of document 02 alone.
+//! to (v) of document 02 alone.
 //!
 //! The modules stand on one another in this order: the share arithmetic, the
 //! jobs and nodes, the two walks, the farm with its calls, the program.
@@ -16,4 +16,5 @@ pub mod quick;
 pub mod random;
 pub mod refusal;
 pub mod share;
+pub mod spelling;
 pub mod text;

@@ -2,7 +2,7 @@
 
 use crate::days::farm_numbers;
 use crate::farm::Farm;
-use crate::limits::{LAST_TICK, MOST_UNITS};
+use crate::limits::{LAST_TICK, MOST_DIGITS, MOST_UNITS};
 use crate::program::Session;
 use crate::quick::Quick;
 use crate::random::Random;
@@ -79,6 +79,8 @@ pub fn long_days() -> Vec<LongDay> {
         withdrawals.day(),
         returns.day(),
         quotes.day(),
+        catalogue(100_000),
+        long_runs(20_000),
     ];
     days.extend(same_walks());
     days
@@ -105,13 +107,29 @@ impl Writer {
         writer
     }
 
-    fn line(&mut self, kind: &[u8], numbers: &[u64]) {
-        let first = self.day.bytes.len();
-        text::print(&mut self.day.bytes, kind, numbers);
-        let line = &self.day.bytes[first..];
-        self.session.line(&line[..line.len() - 1]);
+    fn raw(&mut self, line: &[u8]) {
+        self.session.line(line);
         self.session.answers().clear();
+        self.day.bytes.extend_from_slice(line);
+        self.day.bytes.push(b'\n');
         self.day.lines += 1;
+    }
+
+    fn line(&mut self, kind: &[u8], numbers: &[u64]) {
+        let mut line = Vec::new();
+        text::print(&mut line, kind, numbers);
+        line.pop();
+        self.raw(&line);
+    }
+
+    /// The same with zeros before the numbers, so that each has 8 digits at least.
+    fn line_of_long_numbers(&mut self, kind: &[u8], numbers: &[u64]) {
+        let mut line = kind.to_vec();
+        for number in numbers {
+            let digits = self.random.between(8, MOST_DIGITS as u64) as usize;
+            line.extend_from_slice(format!("\t{number:0digits$}").as_bytes());
+        }
+        self.raw(&line);
     }
 
     /// A line with an offer's fields: `job` or `quote`.
@@ -305,6 +323,43 @@ fn short_lines(lines: usize) -> LongDay {
             }
             _ => writer.line(b"clock", &[]),
         }
+    }
+    writer.day
+}
+
+/// Short lines of long numbers with few jobs waiting, all of them readable, so that
+/// reading is much of the work.
+fn catalogue(lines: usize) -> LongDay {
+    let mut writer = Writer::new("long numbers, few jobs waiting", COSTS);
+    while writer.day.lines < lines {
+        let (show, clock) = (writer.random.between(1, 8), writer.clock());
+        let fields = [show, 9 * show, clock + 5_000];
+        match (writer.random.between(0, 29), &writer.numbers()[..]) {
+            (0..=21, _) => writer.line_of_long_numbers(b"account", &[show]),
+            (22..=26, _) => writer.line_of_long_numbers(b"clock", &[clock + 90 * show]),
+            (27, &[job, ..]) => writer.line_of_long_numbers(b"withdraw", &[job]),
+            (28, &[_, ..]) => writer.line_of_long_numbers(b"quote", &fields),
+            _ => writer.line_of_long_numbers(b"job", &fields),
+        }
+    }
+    writer.day
+}
+
+/// Every other line holds hundreds of bytes without a tab and cannot be read.
+fn long_runs(lines: usize) -> LongDay {
+    let mut writer = Writer::new("long runs without a separator", COSTS);
+    while writer.day.lines < lines {
+        let (show, clock) = (writer.random.between(1, 8), writer.clock());
+        match writer.random.between(0, 3) {
+            0 => writer.line(b"clock", &[clock + 90 * show]),
+            1 => writer.line(b"job", &[show, 9 * show, clock + 5_000]),
+            _ => writer.line(b"account", &[show]),
+        }
+        let r = &mut writer.random;
+        let run = vec![r.pick(b"09x\0\x89\xff"); r.between(900, 1_000) as usize];
+        let (before, behind) =
+            r.pick(&[("", ""), ("clock\t", ""), ("", "\t1"), ("job\t1\t", "\t9")]);
+        writer.raw(&[before.as_bytes(), &run, behind.as_bytes()].concat());
     }
     writer.day
 }

@@ -98,14 +98,26 @@ fn write_in_pieces(mut stdin: ChildStdin, day: &[u8], seed: u64) {
     let usual = day.len() as u64 / MOST_PIECES + 5;
     let mut rest = day;
     while !rest.is_empty() {
-        let length = random.between(1, 2 * usual).min(rest.len() as u64);
-        let (piece, left) = rest.split_at(length as usize);
+        let (piece, left) = rest.split_at(piece_length(rest, usual, &mut random));
         if stdin.write_all(piece).is_err() {
             return;
         }
         rest = left;
         // Time for the program to read this piece by itself.
         std::thread::sleep(Duration::from_micros(50));
+    }
+}
+
+/// A piece ends anywhere in a word of eight bytes, and often right before or right
+/// behind a tab or a newline.
+fn piece_length(rest: &[u8], usual: u64, random: &mut Random) -> usize {
+    let length = random.between(1, 2 * usual).min(rest.len() as u64) as usize;
+    let mut behind = rest[length..].iter();
+    let separator = behind.position(|byte| matches!(byte, b'\t' | b'\n'));
+    match (separator, random.between(0, 3)) {
+        (Some(place), 0) => length + place,
+        (Some(place), 1) => length + place + 1,
+        _ => length,
     }
 }
 
