@@ -1,11 +1,13 @@
 // The search for the next of two bytes: a word of eight bytes at a time, and the tail by bytes. It knows bytes, and no line.
 // What the public functions find is in specs/Model.antt, why the test of a word is right in specs/Words.antt.
 ghost use mathlib.Core.Path.{_≡_};
-ghost use Prim.Native.Nat.{_+_, _≤_, _<_};
+ghost use Prim.Native.Nat.{_+_, _/_, _≤_, _<_};
+ghost use lib.Count.{trailingZeros};
 ghost use lib.ListN.{length, take, drop};
 ghost use Rattle.search.specs.Model.{this, either, nextPlace};
 ghost use Rattle.search.specs.Words.{bytesOf, Marks, Exact};
 use numbers::wide8;
+use numbers::wide32;
 
 // 1 in each byte of a word, and the top bit of each byte.
 const ONES: u64 = 0x0101_0101_0101_0101;
@@ -46,6 +48,13 @@ fn marks(w: u64, a: u8, b: u8) -> u64
     marks_of(w, a) | marks_of(w, b)
 }
 
+// The byte of a word that the lowest mark is in.
+fn place_of(t: u64) -> usize
+    ensures { λ r. ⌜ r ≡ trailingZeros 64 t / 8 ⌝ }
+{
+    (wide32(u64::trailing_zeros(t)) / 8) as usize
+}
+
 // ---- A text
 
 // Where one of two bytes stands next, at `from` or behind it, byte by byte.
@@ -78,7 +87,7 @@ pub fn next_of(text: &[u8], from: usize, a: u8, b: u8) -> usize
     while 8 <= n - i {
         let t = marks(eight(text, i), a, b);
         if t != 0 {
-            return i + (u64::trailing_zeros(t) / 8) as usize;
+            return i + place_of(t);
         }
         i += 8;
     }

@@ -3,7 +3,6 @@ use mathlib.Core.Path.{_≡_}
 use Prim.Native.Nat.{_-_, _≤_}
 use native.Mathlib.Omega.{arith}
 use lib.ListN.{length}
-use lib.Count.{trailing-le}
 use Rattle.search.specs.Model.{either, nextPlace}
 use Rattle.search.specs.Laws.{next-past}
 use Rattle.search.specs.Steps.{Found, word-found, word-passed}
@@ -32,14 +31,14 @@ eight-requires c κs = search needs
 marks-requires : tie.Need-marks-requires Inv-loop μ-loop
 marks-requires c κs = search needs
 
-cast-result : tie.Need-cast-result Inv-loop μ-loop
-cast-result c = omega (arith, trailing-le 64 (c .before .marks .result))
+place-of-requires : tie.Need-place-of-requires Inv-loop μ-loop
+place-of-requires c κs = search needs
 
 -- where a word is marked, and what it was marked for
 abbrev From : {A : Type 0} {B : A → Type 0} → ((x : A) → B x) → Type 0
 From {A} {B} f = A
 
-found : (c : From cast-result)
+found : (c : From place-of-requires)
     → let a = c .before .before .before .before .before .before .before .args in
     Found (either (a .a) (a .b)) (a .text .now) (c .before .before .before .before .loop .i) (c .before .marks .result)
 found c =
@@ -48,10 +47,10 @@ found c =
     word-found (either (a .a) (a .b)) (a .text .now) (c .before .before .before .before .loop .i) (e .result) (c .before .marks .result) (e .ensures) (c .before .marks .ensures) (c .if2 .taken)
 
 add-result : tie.Need-add-result Inv-loop μ-loop
-add-result c = omega (arith, found c)
+add-result c = omega (arith, found (c .before), c .place-of .ensures)
 
 returns-2 : tie.Need-returns-2 Inv-loop μ-loop
-returns-2 c = omega (arith, found c)
+returns-2 c = omega (arith, found (c .before), c .place-of .ensures)
 
 add-i : tie.Need-add-i Inv-loop μ-loop
 add-i c = search needs
@@ -83,7 +82,7 @@ next-of-spec =
     sub-loop
     eight-requires
     marks-requires
-    cast-result
+    place-of-requires
     add-result
     returns-2
     add-i
