@@ -84,19 +84,19 @@ unfolding before allDigits
 broken-digits [] h = absurd (omega arith)
 broken-digits (b ∷ f) h = digits-step (eqb b newline) b f refl h (broken-digits f)
 
-same-broken : (n m : Bool) (x y : ℕ) (xs ys : List ℕ) → eqb x newline ≡ n → eqb y newline ≡ m
+same-step : (n m : Bool) (x y : ℕ) (xs ys : List ℕ) → eqb x newline ≡ n → eqb y newline ≡ m
     → cond n 0 (suc (before (this newline) xs)) < suc (length xs) → cond m 0 (suc (before (this newline) ys)) ≡ suc (length ys)
     → (Broken xs → before (this newline) ys ≡ length ys → same xs ys ≡ false) → eqb x y && same xs ys ≡ false
-same-broken n true x y xs ys d e h k i = absurd (omega arith)
-same-broken true false x y xs ys d e h k i = rw (ne-eqb x y (λ z. eqb-false y newline e (sym z ∙ eqb-true x newline d)))
-same-broken false false x y xs ys d e h k i = rw (i (omega arith) (omega arith), and-false)
+same-step n true x y xs ys d e h k i = absurd (omega arith)
+same-step true false x y xs ys d e h k i = rw (ne-eqb x y (λ z. eqb-false y newline e (sym z ∙ eqb-true x newline d)))
+same-step false false x y xs ys d e h k i = rw (i (omega arith) (omega arith), and-false)
 
 -- and no word without a newline.
 broken-same : (xs ys : List ℕ) → Broken xs → before (this newline) ys ≡ length ys → same xs ys ≡ false
 unfolding before same
 broken-same [] ys h k = absurd (omega arith)
 broken-same (x ∷ xs) [] h k = refl
-broken-same (x ∷ xs) (y ∷ ys) h k = same-broken (eqb x newline) (eqb y newline) x y xs ys refl refl h k (broken-same xs ys)
+broken-same (x ∷ xs) (y ∷ ys) h k = same-step (eqb x newline) (eqb y newline) x y xs ys refl refl h k (broken-same xs ys)
 
 word-whole : (k : Kind) → before (this newline) (wordOf k) ≡ length (wordOf k)
 unfolding before

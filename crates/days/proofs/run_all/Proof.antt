@@ -3,7 +3,6 @@ use borrow.Author.Needs.{needs}
 use Prim.Native.Nat.{_-_, _≤_}
 use native.Mathlib.Omega.{arith}
 use lib.ListN.{length}
-use Rattle.search.specs.Model.{this}
 use Rattle.search.specs.Laws.{next-within}
 use Rattle.days.proofs.run_all.Statement.{statement}
 use Rattle.days.proofs.run_all.Tie as tie
@@ -32,7 +31,7 @@ From {A} {B} f = A
 
 -- A name ends in the list, or with it.
 within : (c : From part-run-day-start) → c .find .result ≤ length (c .before .before .before .before .args .names .now)
-within c = rw (c .find .ensures) (next-within (this 10) (c .before .before .before .before .args .names .now) (c .before .before .loop .next) (omega arith))
+within c = rw (c .find .ensures) (next-within _ (c .before .before .before .before .args .names .now) (c .before .before .loop .next) (omega arith))
 
 part-run-day-end : tie.Need-part-run-day-end Inv-loop μ-loop
 part-run-day-end c = let w = within c in search needs

@@ -7,9 +7,7 @@ use Prim.Native.Nat.{ℕ, _+_, _-_, _≤_, _<_}
 use native.Mathlib.Omega.{arith}
 use borrow.Author.Tests.{not-true, not-false}
 use lib.ListN.{length, getD}
-use Rattle.search.specs.Model.{this}
 use Rattle.search.specs.Laws.{next-within}
-use Rattle.text.specs.Model.{newline}
 use Rattle.text.specs.Writing.{WroteWithin, within-same}
 use Rattle.reading.specs.declared.Kind.{Kind}
 use Rattle.reading.specs.declared.Row.{Row}
@@ -101,7 +99,7 @@ Found = To (λ (t : Turn). t .before .before .before .before)
 
 -- It is in the block, or the block's end.
 within : (c : Found) → c .find .result ≤ length (c .before .before .before .before .before .before .before .before .before .args .block .now)
-within c = rw (c .find .ensures) (next-within (this newline) (c .before .before .before .before .before .before .before .before .before .args .block .now) (c .before .before .before .loop .next) (omega (arith, c .before .before .loop-test .taken)))
+within c = rw (c .find .ensures) (next-within _ (c .before .before .before .before .before .before .before .before .before .args .block .now) (c .before .before .before .loop .next) (omega (arith, c .before .before .loop-test .taken)))
 
 module _ (t : Turn) where
   inside : end t < length (entry t .args .block .now)
