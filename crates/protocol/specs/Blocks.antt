@@ -7,7 +7,7 @@ use native.Mathlib.Omega.{arith}
 use borrow.Author.Tests.{le-leb, lt-leb, leb-true}
 use lib.Seq.{length-take-le}
 use lib.Dec.{leb}
-use lib.ListN.{length, take, drop}
+use lib.ListN.{length, take}
 use Rattle.planner.specs.declared.Farm.{Farm}
 use Rattle.text.specs.Model.{newline}
 use Rattle.text.specs.Writing.{WroteWithin, wrote-none, wrote-same, wrote-join, wrote-length, within-same}

@@ -1,6 +1,6 @@
 -- Why the test of a word finds its first wanted byte. A word is searched for a byte c as x, which is 0 in the bytes that are c. Less 1 in each byte, the lowest 0 of x becomes 255 and
 -- borrows from the byte above; below it no byte borrows. So its top bit is set there and was not in x, and in no byte below are both so.
-use mathlib.Core.Path.{_≡_, refl, sym, ap, _∙_}
+use mathlib.Core.Path.{_≡_, refl, ap, _∙_}
 use mathlib.Core.List.{List, [], _∷_, _++_}
 use mathlib.Core.Bool.{Bool, true, false, cond, _||_}
 use Prim.Native.Nat.{ℕ, zero, suc, _+_, _*_, _-_, _/_, _%_, _^_, _≤_, _<_}

@@ -1,5 +1,4 @@
 -- `search::find` meets its contract: one byte, asked for twice.
-use lib.ListN.{drop}
 use Rattle.search.specs.Steps.{before-same}
 use borrow.Author.Needs.{needs}
 use Rattle.search.proofs.find.Statement.{statement}
