@@ -124,7 +124,7 @@ pub row-recorded : (f : Farm) (k : Kind) (ns : List ℕ) → byRow f (rowWith k 
 unfolding byRow recorded
 row-recorded f k ns = rw (row-called f k ns)
 
-no-row : (f : Farm) → byRow f (rowWith kind.Unreadable []) ≡ unread f
+pub no-row : (f : Farm) → byRow f (rowWith kind.Unreadable []) ≡ unread f
 unfolding byRow
 no-row f = refl
 
@@ -136,14 +136,6 @@ line-row f l h = rw (le-leb (length l) longest h) (go (readable l))
     go : (t : Bool) → cond t (recorded f (lineKind l) (numbersOf l)) (unread f) ≡ byRow f (cond t (rowWith (lineKind l) (numbersOf l)) (rowWith kind.Unreadable []))
     go true = sym (row-recorded f (lineKind l) (numbersOf l))
     go false = sym (no-row f)
-
--- So is what the code keeps of a line.
-pub rest-row : (f : Farm) (r : Rest) → ended f (pendingOf r) ≡ byRow f (rowIn (pendingOf r))
-rest-row f r = go (leb (r .fill) longest) refl
-  where
-    go : (t : Bool) → leb (r .fill) longest ≡ t → ended f (cond t (part (take (r .fill) (r .bytes))) long) ≡ byRow f (rowIn (cond t (part (take (r .fill) (r .bytes))) long))
-    go true e = line-row f (take (r .fill) (r .bytes)) (omega (arith, leb-true (r .fill) longest e, length-take (r .fill) (r .bytes)))
-    go false e = sym (no-row f)
 
 six : (k : Kind) (n : ℕ) (b : Bool) → k ≡ kind.Farm → (fits k n && b) ≡ true → 6 ≤ n
 six k n b e h = go (leb 6 n) refl (rw e at h)

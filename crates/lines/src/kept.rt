@@ -55,3 +55,19 @@ pub fn row_of(rest: Rest) -> Row
     }
     read(&bytes[0..fill])
 }
+
+// The row of a line that ends at place `to` of a block, behind what has come of it and the bytes from `from` on. Where nothing has come before, the line is read in the
+// block: its bytes are not copied.
+pub fn row_behind(fill: usize, bytes: &[u8; 1024], block: &[u8], from: usize, to: usize) -> Row
+    requires { ⌜ (from ≤ to) × (to ≤ length (now block)) ⌝ }
+    ensures { λ r. ⌜ r ≡ rowIn (keptAll (pendingOf (record { fill = fill; bytes = now (bytes .entry) })) (stretch from to (now (block .entry)))) ⌝ }
+{
+    if 0 < fill {
+        let own = *bytes;
+        return row_of(with_bytes(Rest { fill, bytes: own }, block, from, to));
+    }
+    if 1024 < to - from {
+        return unreadable();
+    }
+    read(&block[from..to])
+}

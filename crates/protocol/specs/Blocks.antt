@@ -71,25 +71,30 @@ module _ {f : Farm} {r : Rest} {block : List ℕ} {from : ℕ} {entry : List ℕ
     wrote = g .wrote;
   }
 
-  module _ {end : ℕ} (line : Rest) (e : end ≡ nextPlace (this newline) block next) (l : pendingOf line ≡ keptAll (pendingOf rest) (stretch next end block)) where
-    kept-line : keptAll (soFar .pending) (stretch next end block) ≡ pendingOf line
-    kept-line = ap (λ (p : Pending). keptAll p (stretch next end block)) (g .pending) ∙ sym l
+  module _ {end : ℕ} (e : end ≡ nextPlace (this newline) block next) where
+    -- what is kept of a line up to there
+    abbrev pub lineTo : Pending
+    lineTo = keptAll (pendingOf rest) (stretch next end block)
+
+    kept-line : keptAll (soFar .pending) (stretch next end block) ≡ lineTo
+    kept-line = ap (λ (p : Pending). keptAll p (stretch next end block)) (g .pending)
 
     -- no newline is left
-    pub day-rest : end ≡ length block → Took (record { farm = f; rest = r }) block from entry out (record { session = record { farm = farm; rest = line }; next = end; written = at })
-    day-rest h =
+    pub day-rest : (line : Rest) → pendingOf line ≡ lineTo → end ≡ length block
+        → Took (record { farm = f; rest = r }) block from entry out (record { session = record { farm = farm; rest = line }; next = end; written = at })
+    day-rest line l h =
         let x = fed-rest f (pendingOf r) block from next end soFar (g .onward) e refl h in
         record {
           onward = omega (arith, g .onward);
           inside = λ k. omega arith;
           stops = λ k. absurd (omega arith);
           farm = sym (ap (λ (y : Fed). y .farm) x ∙ g .farms);
-          pending = sym (ap (λ (y : Fed). y .pending) x ∙ kept-line);
+          pending = sym (ap (λ (y : Fed). y .pending) x ∙ kept-line ∙ sym l);
           wrote = within-same (sym (ap (λ (y : Fed). y .text) x ∙ append-nil (soFar .text))) (g .wrote);
         }
 
     -- a line ends and is answered
-    pub day-line : {x : Answered} {later : Farm} {empty : Rest} {most place : ℕ} {back : List ℕ} → end < length block → ended farm (pendingOf line) ≡ x → later ≡ x .farm → pendingOf empty ≡ part []
+    pub day-line : {x : Answered} {later : Farm} {empty : Rest} {most place : ℕ} {back : List ℕ} → end < length block → ended farm lineTo ≡ x → later ≡ x .farm → pendingOf empty ≡ part []
         → WroteWithin most (x .text) at out back place → place ≤ length entry → DayAt f r block from entry later empty (end + 1) place back
     day-line h a d z w k =
         let y = fed-line f (pendingOf r) block from next end soFar (g .onward) e refl h in

@@ -15,7 +15,7 @@ use lines::Rest;
 use lines::answer::put_answer;
 use lines::answer::put_move;
 use lines::answer::put_unread;
-use lines::kept::row_of;
+use lines::kept::row_behind;
 use lines::kept::with_bytes;
 use lines::step::in_turn;
 use lines::step::offered;
@@ -82,17 +82,17 @@ pub fn answer_block(
             };
         }
         let end = find(block, next, b'\n');
-        let line = with_bytes(rest, block, next, end);
         if end == block.len() {
+            let line = with_bytes(rest, block, next, end);
             return Progress {
                 session: Session { farm, rest: line },
                 next: end,
                 written: at,
             };
         }
+        let row = row_behind(rest.fill, &rest.bytes, block, next, end);
         rest.fill = 0;
         next = end + 1;
-        let row = row_of(line);
         let kind = row.kind;
         if !in_turn(kind, farm.opened) {
             at = put_unread(out, at);

@@ -19,8 +19,10 @@ use Rattle.planner.specs.Passes.{passesOf}
 use Rattle.planner.specs.Calls.{quoteSaid}
 use Rattle.planner.specs.OfferSteps.{Decides}
 use Rattle.planner.specs.ClockSteps.{Begins, MoveDecides, move-refused, move-taken, none-due-yet}
-use Rattle.lines.specs.Model.{Answered, answerText, inTurn, farmLine, jobLine, clockLine, accountLine, withdrawLine, quoteLine, called, lent}
-use Rattle.lines.specs.Rows.{FarmRow, pendingOf, byRow, allowancesIn, rest-row, row-farm, row-turn, row-unread}
+use Rattle.lines.specs.Model.{Answered, Pending, answerText, inTurn, farmLine, jobLine, clockLine, accountLine, withdrawLine, quoteLine, called, lent}
+use Rattle.lines.specs.Feeding.{keptAll, stretch}
+use Rattle.lines.specs.PendingLine.{kept-row}
+use Rattle.lines.specs.Rows.{FarmRow, pendingOf, rowIn, byRow, allowancesIn, row-farm, row-turn, row-unread}
 use Rattle.protocol.specs.Reachable.{Reachable, reachable-passes, reachable-sized}
 use Rattle.protocol.specs.CallSteps.{clock-plain, rows-asked, rows-fit, clock-text}
 use Rattle.protocol.specs.Blocks.{DayAt, day-start, day-reachable, day-took, day-rest, day-line}
@@ -59,7 +61,7 @@ Turn = To (λ (n : Choice). n .before .before)
 
 -- where a line begins
 abbrev Line : Type 0
-Line = To (λ (t : Turn). t .before .before .before .before .before .before .before)
+Line = To (λ (t : Turn). t .before .before .before .before .before .before .before .before)
 
 -- where the function is entered
 abbrev Entry : Type 0
@@ -70,22 +72,29 @@ abbrev Granted : Type 0
 Granted = To (λ (c : From array-read-farm). c .before .before)
 
 abbrev line : Turn → Line
-line t = t .before .before .before .before .before .before .before
+line t = t .before .before .before .before .before .before .before .before
 
 abbrev entry : Turn → Entry
 entry t = line t .before .before .before .before .before .before
 
 abbrev end : Turn → ℕ
-end t = t .before .before .before .before .find .result
+end t = t .before .before .before .before .before .find .result
 
 abbrev row : Turn → Row
-row t = t .before .row-of .result
+row t = t .before .row-behind .result
 
 abbrev first : Turn → ℕ
 first t = getD (row t .numbers) 0 0
 
 abbrev farm : Turn → Farm
 farm t = line t .loop .farm
+
+-- the line that ends
+abbrev ending : Turn → Pending
+ending t = keptAll (pendingOf (line t .loop .rest)) (stretch (line t .loop .next) (end t) (entry t .args .block .now))
+
+row-is : (t : Turn) → row t ≡ rowIn (ending t)
+row-is t = t .before .row-behind .ensures
 
 -- the day where the next line begins
 abbrev Onward : Turn → Farm → ℕ → List ℕ → Type 0
@@ -95,7 +104,7 @@ Onward t later place back =
 
 -- where the end of a line is found
 abbrev Found : Type 0
-Found = To (λ (t : Turn). t .before .before .before .before)
+Found = To (λ (t : Turn). t .before .before .before .before .before)
 
 -- It is in the block, or the block's end.
 within : (c : Found) → c .find .result ≤ length (c .before .before .before .before .before .before .before .before .before .args .block .now)
@@ -103,24 +112,23 @@ within c = rw (c .find .ensures) (next-within _ (c .before .before .before .befo
 
 module _ (t : Turn) where
   inside : end t < length (entry t .args .block .now)
-  inside = omega (arith, within (t .before .before .before .before), t .before .before .if3 .left)
+  inside = omega (arith, within (t .before .before .before .before .before), t .before .before .before .before .if3 .left)
 
   -- Less of the block is left.
   less : length (entry t .args .block .now) - (end t + 1) < length (entry t .args .block .now) - line t .loop .next
-  less = omega (arith, t .before .before .before .before .find .ensures, inside)
+  less = omega (arith, t .before .before .before .before .before .find .ensures, inside)
 
   -- The largest answer fits.
   room : line t .loop .at + 164000 ≤ length (line t .loop .out)
-  room = omega (arith, line t .loop .inv .0 .size, line t .loop .inv .1, t .before .before .before .before .before .if2 .left)
+  room = omega (arith, line t .loop .inv .0 .size, line t .loop .inv .1, t .before .before .before .before .before .before .if2 .left)
 
   -- The line ends and is answered.
   answers : {x : Answered} {later : Farm} {most place : ℕ} {back : List ℕ} → byRow (farm t) (row t) ≡ x → later ≡ x .farm
       → WroteWithin most (x .text) (line t .loop .at) (line t .loop .out) back place → most ≤ 164000 → Onward t later place back
   answers b d p h =
       let i = line t .loop .inv in
-      let w = t .before .before .before .with-bytes in
-      let said = rest-row (farm t) (w .result) ∙ ap (byRow (farm t)) (sym (t .before .row-of .ensures)) ∙ b in
-      (day-line (i .0) (w .result) (t .before .before .before .before .find .ensures) (w .ensures) inside said d refl p (omega (arith, p .within, room, i .0 .size)), i .1)
+      let said = kept-row (farm t) (line t .loop .rest) (stretch (line t .loop .next) (end t) (entry t .args .block .now)) ∙ sym (ap (byRow (farm t)) (row-is t)) ∙ b in
+      (day-line (i .0) (t .before .before .before .before .before .find .ensures) inside said d refl p (omega (arith, p .within, room, i .0 .size)), i .1)
 
 module _ (n : Choice) where
   abbrev turn : Turn
@@ -195,21 +203,21 @@ find-requires : tie.Need-find-requires Inv-loop μ-loop
 find-requires c κs = omega arith
 
 with-bytes-requires : tie.Need-with-bytes-requires Inv-loop μ-loop
-with-bytes-requires c κs = (omega (arith, c .find .ensures), within c)
+with-bytes-requires c κs = (omega (arith, c .before .find .ensures), within (c .before))
 
 same-length-2 : tie.Need-same-length-2 Inv-loop μ-loop
 same-length-2 c = search needs
 
 returns-3 : tie.Need-returns-3 Inv-loop μ-loop
 returns-3 c =
-    let w = c .before .with-bytes in
-    day-rest (c .before .before .before .before .before .loop .inv .0) (w .result) (c .before .before .find .ensures) (w .ensures) (c .if3 .taken)
+    let w = c .with-bytes in
+    day-rest (c .before .before .before .before .before .loop .inv .0) (c .before .before .find .ensures) (w .result) (w .ensures) (c .before .if3 .taken)
 
 add-next : tie.Need-add-next Inv-loop μ-loop
-add-next c = let w = within (c .before .before) in search needs
+add-next c = let w = within (c .before .before .before .before) in search needs
 
-row-of-requires : tie.Need-row-of-requires Inv-loop μ-loop
-row-of-requires c κs = search needs
+row-behind-requires : tie.Need-row-behind-requires Inv-loop μ-loop
+row-behind-requires c κs = (omega (arith, c .before .before .before .find .ensures), within (c .before .before .before))
 
 in-turn-requires : tie.Need-in-turn-requires Inv-loop μ-loop
 in-turn-requires c κs = search needs
@@ -349,7 +357,7 @@ enum-told-4 : tie.Need-enum-told-4 Inv-loop μ-loop
 enum-told-4 c = search needs
 
 opening-requires : tie.Need-opening-requires Inv-loop μ-loop
-opening-requires c κs = subst FarmRow (sym (c .before .before .before .before .before .row-of .ensures)) (row-farm (pendingOf (c .before .before .before .before .before .before .before .with-bytes .result))) (c .enum-told4 .given .1)
+opening-requires c κs = subst FarmRow (sym (row-is (c .before .before .before .before))) (row-farm (ending (c .before .before .before .before))) (c .enum-told4 .given .1)
 
 put-answer-requires-5 : tie.Need-put-answer-requires-5 Inv-loop μ-loop
 put-answer-requires-5 c κs = omega (arith, room (turn (c .before .before .before .before .before)))
@@ -458,8 +466,8 @@ answer-block-spec =
     with-bytes-requires
     same-length-2
     returns-3
+    row-behind-requires
     add-next
-    row-of-requires
     in-turn-requires
     put-unread-requires
     loop-less
