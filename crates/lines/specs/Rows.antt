@@ -17,7 +17,7 @@ use Rattle.reading.specs.declared.Kind.{Kind}
 use Rattle.reading.specs.declared.Kind.the-variants as kind
 use Rattle.reading.specs.Model.{fields, othersOf, fits, lineKind, readable, allNumbers, numbersOf, rowWith, rowOf}
 use Rattle.lines.specs.declared.Rest.{Rest}
-use Rattle.lines.specs.Model.{Answered, unread, allowancesOf, farmLine, offerIn, jobLine, clockLine, accountLine, withdrawLine, quoteLine, inTurn, ifInTurn, called, recorded, answered, longest, Pending, part, long, ended}
+use Rattle.lines.specs.Model.{Answered, unread, allowancesOf, farmLine, offerIn, jobLine, clockLine, accountLine, withdrawLine, quoteLine, inTurn, ifInTurn, called, recorded, answered, longest, Pending, part, long}
 
 -- ---- Rows
 

@@ -45,7 +45,7 @@ pub fn with_bytes(rest: Rest, block: &[u8], from: usize, to: usize) -> Rest
 }
 
 // The row of a line that ends; one that is too long cannot be read.
-pub fn row_of(rest: Rest) -> Row
+fn row_of(rest: Rest) -> Row
     ensures { λ r. ⌜ r ≡ rowIn (pendingOf rest) ⌝ }
 {
     let fill = rest.fill;
@@ -56,8 +56,8 @@ pub fn row_of(rest: Rest) -> Row
     read(&bytes[0..fill])
 }
 
-// The row of a line that ends at place `to` of a block, behind what has come of it and the bytes from `from` on. Where nothing has come before, the line is read in the
-// block: its bytes are not copied.
+// The row of a line that ends at place `to` of a block: the first `fill` of these bytes came of it before, and the block's bytes from `from` on follow. Where none came before,
+// the line is read in the block, and no byte is copied.
 pub fn row_behind(fill: usize, bytes: &[u8; 1024], block: &[u8], from: usize, to: usize) -> Row
     requires { ⌜ (from ≤ to) × (to ≤ length (now block)) ⌝ }
     ensures { λ r. ⌜ r ≡ rowIn (keptAll (pendingOf (record { fill = fill; bytes = now (bytes .entry) })) (stretch from to (now (block .entry)))) ⌝ }
