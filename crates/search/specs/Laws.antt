@@ -26,9 +26,9 @@ before-end p xs i h = omega (arith, before-length p (drop i xs), length-drop i x
 pub next-past : (p : ℕ → Bool) (xs : List ℕ) (from : ℕ) → length xs ≤ from → nextPlace p xs from ≡ from
 next-past p xs from h = omega (arith, before-end p xs from h)
 
--- Searched from within the text, the place is at most the length.
-pub next-within : (p : ℕ → Bool) (xs : List ℕ) (from : ℕ) → from ≤ length xs → nextPlace p xs from ≤ length xs
-next-within p xs from h = omega (arith, before-length p (drop from xs), length-drop from xs)
+-- Searched from within the text, the place r is at most the length.
+pub next-within : (p : ℕ → Bool) (xs : List ℕ) (from r : ℕ) → r ≡ nextPlace p xs from → from ≤ length xs → r ≤ length xs
+next-within p xs from r e h = omega (arith, before-length p (drop from xs), length-drop from xs)
 
 earlier-step : (t : Bool) (p : ℕ → Bool) (x : ℕ) (xs : List ℕ) (k : ℕ) → p x ≡ t → ((j : ℕ) → j < before p xs → p (getD xs j 0) ≡ false)
     → k < cond t 0 (suc (before p xs)) → p (getD (x ∷ xs) k 0) ≡ false
@@ -62,7 +62,7 @@ pub record First (p : ℕ → Bool) (xs : List ℕ) (from r : ℕ) : Type 0 wher
 pub next-first : (p : ℕ → Bool) (xs : List ℕ) (from : ℕ) → from ≤ length xs → First p xs from (nextPlace p xs from)
 next-first p xs from h = record {
   start = omega arith;
-  within = next-within p xs from h;
+  within = next-within p xs from (nextPlace p xs from) refl h;
   earlier = λ k l m.
       let z : from + (k - from) ≡ k = omega arith in
       rw (getD-drop, z) at (before-earlier p (drop from xs) (k - from) (omega arith));

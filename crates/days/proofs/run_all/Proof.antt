@@ -1,6 +1,6 @@
 -- `days::run_all` meets its contract.
 use borrow.Author.Needs.{needs}
-use Prim.Native.Nat.{_-_, _≤_}
+use Prim.Native.Nat.{_-_}
 use native.Mathlib.Omega.{arith}
 use lib.ListN.{length}
 use Rattle.search.specs.Laws.{next-within}
@@ -25,22 +25,19 @@ sub-run-day c = search needs
 part-run-day-start : tie.Need-part-run-day-start Inv-loop μ-loop
 part-run-day-start c = search needs
 
--- the place from which a need goes
-abbrev From : {A : Type 0} {B : A → Type 0} → ((x : A) → B x) → Type 0
-From {A} {B} f = A
-
--- A name ends in the list, or with it.
-within : (c : From part-run-day-start) → c .find .result ≤ length (c .before .before .before .before .args .names .now)
-within c = rw (c .find .ensures) (next-within _ (c .before .before .before .before .args .names .now) (c .before .before .loop .next) (omega arith))
-
 part-run-day-end : tie.Need-part-run-day-end Inv-loop μ-loop
-part-run-day-end c = let w = within c in search needs
+part-run-day-end c =
+    let w = next-within _ (c .before .before .before .before .args .names .now) (c .before .before .loop .next) (c .find .result) (c .find .ensures) (omega arith) in
+    search needs
 
 run-day-requires : tie.Need-run-day-requires Inv-loop μ-loop
 run-day-requires c κs = search needs
 
 add-next : tie.Need-add-next Inv-loop μ-loop
-add-next c = let w = within (c .before .before) in search needs
+add-next c =
+    let f = c .before .before .find in
+    let w = next-within _ (c .before .before .before .before .before .before .args .names .now) (c .before .before .before .before .loop .next) (f .result) (f .ensures) (omega arith) in
+    search needs
 
 loop-less : tie.Need-loop-less Inv-loop μ-loop
 loop-less c = search needs

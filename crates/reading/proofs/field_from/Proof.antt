@@ -24,7 +24,7 @@ returns-2 : tie.Need-returns-2
 returns-2 c =
     let a = c .before .before .before .args in
     let e = c .before .next-of in
-    (field-last (a .line .now) (a .from) (e .result) (e .ensures) (omega arith), omega arith, omega (arith, next-within (either tab newline) (a .line .now) (a .from) (c .before .before .before .pre)))
+    (field-last (a .line .now) (a .from) (e .result) (e .ensures) (omega arith), omega arith, next-within (either tab newline) (a .line .now) (a .from) (e .result) (e .ensures) (c .before .before .before .pre))
 
 pub field-from-spec : {M : Type 1} → statement M
 field-from-spec = tie.close (tie.spec next-of-requires shared-slice-read-whole returns returns-2)

@@ -108,7 +108,7 @@ Found = To (λ (t : Turn). t .before .before .before .before .before)
 
 -- It is in the block, or the block's end.
 within : (c : Found) → c .find .result ≤ length (c .before .before .before .before .before .before .before .before .before .args .block .now)
-within c = rw (c .find .ensures) (next-within _ (c .before .before .before .before .before .before .before .before .before .args .block .now) (c .before .before .before .loop .next) (omega (arith, c .before .before .loop-test .taken)))
+within c = next-within _ (c .before .before .before .before .before .before .before .before .before .args .block .now) (c .before .before .before .loop .next) (c .find .result) (c .find .ensures) (omega (arith, c .before .before .loop-test .taken))
 
 module _ (t : Turn) where
   inside : end t < length (entry t .args .block .now)
