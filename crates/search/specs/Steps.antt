@@ -86,21 +86,17 @@ before-skip p zero xs h = omega arith
 before-skip p (suc n) [] h = refl
 before-skip p (suc n) (x ∷ xs) h = skip-step (p x) (before p (take n xs)) (before p xs) (length (take n xs)) (before p (drop n xs)) (before-skip p n xs) h
 
--- what is wanted stands in the word from place i on, in the byte of the lowest bit of t
-abbrev pub Found : (ℕ → Bool) → List ℕ → ℕ → ℕ → Type 0
-Found p xs i t = (trailingZeros 64 t / 8 ≡ before p (drop i xs)) × (before p (drop i xs) < 8)
-
 module _ (p : ℕ → Bool) (xs : List ℕ) (i w t : ℕ) (word : bytesOf 8 w ≡ take 8 (drop i xs)) (marks : Exact p (bytesOf 8 w) t) where
   eight-long : length (take 8 (drop i xs)) ≡ 8
   eight-long = rw word at (bytes-length 8 w)
 
-  -- Some mark: it stands in the word, at the lowest mark.
-  pub word-found : (t ≡ 0 → ⊥) → Found p xs i t
+  -- Some mark: what is wanted stands in the word, at the lowest mark.
+  pub word-found : (t ≡ 0 → ⊥) → trailingZeros 64 t / 8 ≡ before p (drop i xs)
   word-found n =
       let l : before p (take 8 (drop i xs)) < 8 = rw word at (marks .some n) in
       let e : before p (drop i xs) ≡ before p (take 8 (drop i xs)) = before-take p 8 (drop i xs) (omega (arith, eight-long)) in
       let f : trailingZeros 64 t / 8 ≡ before p (take 8 (drop i xs)) = rw word at (marks .first n) in
-      (f ∙ sym e, omega arith)
+      f ∙ sym e
 
   -- No mark: it stands behind the word.
   pub word-passed : t ≡ 0 → before p (drop i xs) ≡ 8 + before p (drop (i + 8) xs)

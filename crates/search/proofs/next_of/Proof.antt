@@ -2,10 +2,11 @@
 use mathlib.Core.Path.{_≡_}
 use Prim.Native.Nat.{_-_, _≤_}
 use native.Mathlib.Omega.{arith}
+use lib.Count.{trailing-le}
 use lib.ListN.{length}
 use Rattle.search.specs.Model.{either, nextPlace}
 use Rattle.search.specs.Laws.{next-past}
-use Rattle.search.specs.Steps.{Found, word-found, word-passed}
+use Rattle.search.specs.Steps.{word-found, word-passed}
 use borrow.Author.Needs.{needs}
 use Rattle.search.proofs.next_of.Statement.{statement}
 use Rattle.search.proofs.next_of.Tie as tie
@@ -34,23 +35,15 @@ marks-requires c κs = search needs
 place-of-requires : tie.Need-place-of-requires Inv-loop μ-loop
 place-of-requires c κs = search needs
 
--- where a word is marked, and what it was marked for
-abbrev From : {A : Type 0} {B : A → Type 0} → ((x : A) → B x) → Type 0
-From {A} {B} f = A
-
-found : (c : From place-of-requires)
-    → let a = c .before .before .before .before .before .before .before .args in
-    Found (either (a .a) (a .b)) (a .text .now) (c .before .before .before .before .loop .i) (c .before .marks .result)
-found c =
-    let a = c .before .before .before .before .before .before .before .args in
-    let e = c .before .before .eight in
-    word-found (either (a .a) (a .b)) (a .text .now) (c .before .before .before .before .loop .i) (e .result) (c .before .marks .result) (e .ensures) (c .before .marks .ensures) (c .if2 .taken)
-
 add-result : tie.Need-add-result Inv-loop μ-loop
-add-result c = omega (arith, found (c .before), c .place-of .ensures)
+add-result c = omega (arith, trailing-le 64 (c .before .before .marks .result), c .place-of .ensures)
 
 returns-2 : tie.Need-returns-2 Inv-loop μ-loop
-returns-2 c = omega (arith, found (c .before), c .place-of .ensures)
+returns-2 c =
+    let a = c .before .before .before .before .before .before .before .before .args in
+    let e = c .before .before .before .eight in
+    let m = c .before .before .marks in
+    omega (arith, word-found (either (a .a) (a .b)) (a .text .now) (c .before .before .before .before .before .loop .i) (e .result) (m .result) (e .ensures) (m .ensures) (c .before .if2 .taken), c .place-of .ensures)
 
 add-i : tie.Need-add-i Inv-loop μ-loop
 add-i c = search needs
