@@ -1,7 +1,7 @@
 // Text in: one line, given without its newline, and the record that it is. It knows bytes and numbers, and no farm.
 // What the public functions mean is in specs/Model.antt, what their parts work out in specs/Steps.antt and specs/Separators.antt.
 ghost use mathlib.Core.Path.{_≡_};
-ghost use mathlib.Core.Bool.{cond};
+ghost use mathlib.Core.Bool.{false, cond};
 ghost use mathlib.Core.List.{[]};
 ghost use Prim.Native.Nat.{_≤_};
 ghost use lib.ListN.{length, drop, set, replicate};
@@ -165,6 +165,17 @@ fn stored(numbers: [u64; 39], place: usize, value: u64) -> [u64; 39]
     next
 }
 
+// The numbers before a field that is none.
+fn stopped(count: usize, numbers: [u64; 39]) -> Numbers
+    ensures { λ r. ⌜ r ≡ record { known = false; count = count; numbers = numbers } ⌝ }
+{
+    Numbers {
+        known: false,
+        count,
+        numbers,
+    }
+}
+
 // The numbers in the fields behind the tab at `from`, up to the first that is none.
 fn gather(line: &[u8], from: usize) -> Numbers
     requires { ⌜ from ≤ length (now line) ⌝ }
@@ -178,20 +189,12 @@ fn gather(line: &[u8], from: usize) -> Numbers
         let start = at + 1;
         let field = field_from(line, start);
         if !field.whole {
-            return Numbers {
-                known: false,
-                count,
-                numbers,
-            };
+            return stopped(count, numbers);
         }
         let end = field.end;
         let x = digits(&line[start..end]);
         if !x.known {
-            return Numbers {
-                known: false,
-                count,
-                numbers,
-            };
+            return stopped(count, numbers);
         }
         let next = stored(numbers, count, x.value);
         numbers = next;

@@ -25,12 +25,15 @@ add-start c = search needs
 field-from-requires : tie.Need-field-from-requires Inv-loop μ-loop
 field-from-requires c κs = search needs
 
+stopped-requires : tie.Need-stopped-requires Inv-loop μ-loop
+stopped-requires c κs = search needs
+
 returns : tie.Need-returns Inv-loop μ-loop
 returns c =
-    let a = c .before .before .before .before .before .before .args in
-    let l = c .before .before .before .before .loop in
-    let f = c .before .before .field-from in
-    sym (sym (l .inv .2) ∙ gathered-broken (l .count) (l .numbers) (a .line .now) (l .at) (f .result) (c .before .before .before .loop-test .taken) (f .ensures .0) (not-true _ (c .if1 .taken)))
+    let a = c .before .before .before .before .before .before .before .args in
+    let l = c .before .before .before .before .before .loop in
+    let f = c .before .before .before .field-from in
+    c .stopped .ensures ∙ sym (sym (l .inv .2) ∙ gathered-broken (l .count) (l .numbers) (a .line .now) (l .at) (f .result) (c .before .before .before .before .loop-test .taken) (f .ensures .0) (not-true _ (c .before .if1 .taken)))
 
 sub-digits : tie.Need-sub-digits Inv-loop μ-loop
 sub-digits c = search needs
@@ -44,14 +47,17 @@ part-digits-end c = search needs
 digits-requires : tie.Need-digits-requires Inv-loop μ-loop
 digits-requires c κs = search needs
 
+stopped-requires-2 : tie.Need-stopped-requires-2 Inv-loop μ-loop
+stopped-requires-2 c κs = search needs
+
 returns-2 : tie.Need-returns-2 Inv-loop μ-loop
 returns-2 c =
-    let a = c .before .before .before .before .before .before .before .before .before .before .args in
-    let l = c .before .before .before .before .before .before .before .before .loop in
-    let f = c .before .before .before .before .before .before .field-from in
-    let d = c .before .before .digits in
-    let cut = behind-next (a .line .now) (l .at) (f .result .end) (c .before .before .before .before .before .before .before .loop-test .taken) (field-whole (a .line .now) (l .at + 1) (f .result) (f .ensures .0) (not-false _ (c .before .before .before .before .if1 .left))) in
-    sym (sym (l .inv .2) ∙ gathered-stop (l .count) (l .numbers) _ _ _ cut (d .result) (d .ensures) (not-true _ (c .if2 .taken)))
+    let a = c .before .before .before .before .before .before .before .before .before .before .before .args in
+    let l = c .before .before .before .before .before .before .before .before .before .loop in
+    let f = c .before .before .before .before .before .before .before .field-from in
+    let d = c .before .before .before .digits in
+    let cut = behind-next (a .line .now) (l .at) (f .result .end) (c .before .before .before .before .before .before .before .before .loop-test .taken) (field-whole (a .line .now) (l .at + 1) (f .result) (f .ensures .0) (not-false _ (c .before .before .before .before .before .if1 .left))) in
+    c .stopped2 .ensures ∙ sym (sym (l .inv .2) ∙ gathered-stop (l .count) (l .numbers) _ _ _ cut (d .result) (d .ensures) (not-true _ (c .before .if2 .taken)))
 
 stored-requires : tie.Need-stored-requires Inv-loop μ-loop
 stored-requires c κs = search needs
@@ -86,11 +92,13 @@ gather-spec =
     loop-holds
     add-start
     field-from-requires
+    stopped-requires
     returns
     sub-digits
     part-digits-start
     part-digits-end
     digits-requires
+    stopped-requires-2
     returns-2
     stored-requires
     add-count
