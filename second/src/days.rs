@@ -2,7 +2,8 @@
 //!
 //! The writer of a day runs it as it goes, so that it can aim at the edges:
 //! the tick at which a job begins, the least deadline that is granted, the
-//! withdrawal after which an old job fails in the next walk.
+//! withdrawal after which an old job fails in the next walk, the allowance that is
+//! just used up.
 
 use crate::farm::{Accepted, Farm};
 use crate::limits::*;
@@ -12,6 +13,7 @@ use crate::random::Random;
 use crate::share::Costs;
 use crate::spelling::Spelling;
 use crate::text;
+use std::ops::Range;
 
 /// The kinds of day, in turn.
 const KINDS: u64 = 8;
@@ -63,6 +65,10 @@ struct Day {
     quoting: bool,
     /// So small that the exhaustive walk can run it.
     tiny: bool,
+    /// Where the line that opened the farm stands among the bytes.
+    opening: Option<Range<usize>>,
+    /// Each show whose account was asked for, and what it held then.
+    asked: Vec<(u64, u64)>,
     spelling: Spelling,
 }
 
@@ -74,6 +80,9 @@ struct Offer {
     deadline: u64,
     compute: Option<u64>,
 }
+
+/// The numbers of a `farm` line before its allowances.
+const BEFORE_ALLOWANCES: usize = 6;
 
 /// A number of the greatest length a line may have.
 const LONGEST: u64 = 9_999_999_999_999;
@@ -97,6 +106,8 @@ impl Day {
             returning: !random.once_in(5),
             quoting: seed / (2 * KINDS) % 4 != 3,
             tiny: false,
+            opening: None,
+            asked: Vec::new(),
             spelling: Spelling::new(seed),
             random,
             bytes: Vec::new(),
@@ -128,7 +139,18 @@ impl Day {
     }
 
     fn open(&mut self, nodes: u64, costs: Costs, allowances: &[u64]) {
+        let unopened = self.session.farm().is_none();
         self.spelled(&farm_line(nodes, costs, allowances));
+        if unopened && self.session.farm().is_some() {
+            self.opening = Some(self.last_line());
+        }
+    }
+
+    /// Where the line just written stands.
+    fn last_line(&self) -> Range<usize> {
+        let end = self.bytes.len() - 1;
+        let newline = self.bytes[..end].iter().rposition(|&byte| byte == b'\n');
+        newline.map_or(0, |place| place + 1)..end
     }
 
     /// An offer with some compute cost or none.
@@ -167,6 +189,14 @@ impl Day {
         self.line(b"withdraw", &[job]);
     }
 
+    fn account(&mut self, show: u64) {
+        let account = self.session.farm().map(|farm| farm.account(show));
+        if let Some(Ok(account)) = account {
+            self.asked.push((show, account.held));
+        }
+        self.line(b"account", &[show]);
+    }
+
     /// The day's bytes, sometimes without the last newline.
     fn end(mut self) -> Vec<u8> {
         if self.random.once_in(4) {
@@ -175,6 +205,7 @@ impl Day {
             let last = self.spelling.broken_off(&self.bytes);
             self.bytes.extend_from_slice(&last);
         }
+        self.write_allowances();
         self.bytes
     }
 
@@ -313,7 +344,7 @@ impl Day {
                 6 => self.job_at_the_edge(show, size, compute),
                 7 => self.clock_near_a_start(),
                 8 => self.clock_to(self.clock() + size),
-                _ => self.line(b"account", &[show]),
+                _ => self.account(show),
             }
         }
         self.accounts();
@@ -372,7 +403,7 @@ impl Day {
                 7 => self.job_at(show, size, self.clock() + size.min(2), compute),
                 8 => self.clock_near_a_start(),
                 9 => self.clock_to(self.clock() + deadline / 16),
-                10 => self.line(b"account", &[show]),
+                10 => self.account(show),
                 _ => self.stray(),
             }
         }
@@ -481,6 +512,7 @@ impl Day {
                 self.middling_line(nodes);
             }
         }
+        self.accounts();
         if self.random.once_in(3) {
             let line = self.long_line();
             self.raw(&line);
@@ -508,6 +540,7 @@ impl Day {
         if self.quoting {
             self.quote_something();
         }
+        self.clock_near_a_start();
         self.accounts();
     }
 
@@ -562,7 +595,7 @@ impl Day {
             }
             13..=15 => self.clock_near_a_start(),
             16 => self.clock_to(self.clock() + wait / 8),
-            17 | 18 => self.line(b"account", &[show]),
+            17 | 18 => self.account(show),
             _ => self.stray(),
         }
     }
@@ -602,7 +635,7 @@ impl Day {
     fn accounts(&mut self) {
         let shows = self.session.farm().map_or(0, Farm::show_count);
         for show in 1..=shows {
-            self.line(b"account", &[show]);
+            self.account(show);
         }
     }
 
@@ -616,7 +649,7 @@ impl Day {
             match self.random.between(0, 9) {
                 0 => self.clock_to(self.clock() + show),
                 1 => self.stray(),
-                _ => self.line(b"account", &[show]),
+                _ => self.account(show),
             }
         }
     }
@@ -773,6 +806,40 @@ impl Day {
             28..=33 => r.between(least, greatest),
             _ => r.of_any_length(greatest).max(least),
         }
+    }
+}
+
+// Allowances.
+impl Day {
+    /// Writes the allowances anew. They decide nothing but the charged ticks, so
+    /// this can wait until it is known what the shows held.
+    fn write_allowances(&mut self) {
+        let Some(place) = self.opening.take() else {
+            return;
+        };
+        let mut numbers = Vec::new();
+        text::read_line(&self.bytes[place.clone()], &mut numbers);
+        for (show, allowance) in (1..).zip(&mut numbers[BEFORE_ALLOWANCES..]) {
+            *allowance = self.about_held(show).unwrap_or(*allowance);
+        }
+        let opening = self.spelling.of(&line(b"farm", &numbers));
+        self.bytes.splice(place, opening);
+    }
+
+    /// For half of the shows about what one of their accounts showed: an allowance
+    /// used up to the tick, or nearly so.
+    fn about_held(&mut self, show: u64) -> Option<u64> {
+        let asked = self.asked.iter().filter(|(asked, _)| *asked == show);
+        let held = asked.map(|&(_, held)| held).filter(|&held| held > 0);
+        let held: Vec<u64> = held.collect();
+        let r = &mut self.random;
+        if held.is_empty() || r.once_in(2) {
+            return None;
+        }
+        let held = r.pick(&held);
+        let about = r.between(held - held / 8, held + held / 8);
+        let allowance = r.pick(&[held, held - 1, held + 1, about]);
+        Some(allowance.min(LAST_TICK))
     }
 }
 

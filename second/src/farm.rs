@@ -139,11 +139,22 @@ impl<W: Walk> Farm<W> {
         ask(in_range, Refusal::Time)?;
         let jobs = self.plan.bookings.partition_point(|b| b.start <= time);
         let lines = self.write_first(jobs, timetable)?;
+        self.hold(&timetable[..lines]);
         if jobs > 0 {
             self.begin(jobs, lines);
         }
         self.begun.clock = time;
         Ok(lines)
+    }
+
+    /// Raises the held ticks by what is issued. A chunk counts from its own send:
+    /// no show pays while a node waits for the sends before, though the node is the
+    /// job's from the start on.
+    fn hold(&mut self, issued: &[Record]) {
+        for chunk in issued {
+            let held = &mut self.shows[chunk.show as usize - 1].ticks;
+            *held += chunk.finish - chunk.send_start;
+        }
     }
 
     /// Takes the first jobs, at least one, out of the plan: they never move again.
@@ -153,13 +164,8 @@ impl<W: Walk> Farm<W> {
         self.begun.ranking = self.begun.ranking.after(issued.map(|chunk| chunk.free));
         self.begun.link_free = plan.chunks[chunks - 1].send_end;
         plan.as_walked = plan.as_walked.saturating_sub(jobs);
-        let mut issued = plan.chunks.drain(..chunks);
-        for booking in plan.bookings.drain(..jobs) {
-            let held = &mut self.shows[booking.job.show as usize - 1].ticks;
-            for chunk in issued.by_ref().take(booking.nodes) {
-                *held += chunk.free.time() - booking.start;
-            }
-        }
+        plan.chunks.drain(..chunks);
+        plan.bookings.drain(..jobs);
     }
 
     /// Takes a waiting job out of the plan. Nothing is walked, and its number

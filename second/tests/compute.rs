@@ -46,8 +46,8 @@ const MIXED: &str = "farm 3 1 2 0 0 0 30 0\n\
 /// 8 ticks hold 1 + 1 + 1 on nodes 1, 3 and 2: sends end at 18, 19 and 20,
 /// chunks at 22, 23 and 24. At the farm's p it would take one node from 16.
 ///
-/// Show 1 holds 15 + 14 + 14 = 43, 13 above its 30. Show 2 holds 2, then
-/// 5 + 6 + 7 more.
+/// From their own sends on show 1's chunks hold 15 + 9 + 6 = 30, just its 30. Show 2
+/// holds 2, then 5 for each of three chunks.
 ///
 /// From 17 the link is free at 20 and node 1 at 22: 1 unit by 26 at p = 5 would
 /// end at 28; at the farm's p it ends at 25.
@@ -61,7 +61,7 @@ const MIXED_ANSWERS: &str = "open 3 2\n\
     chunk 1 1 3 3 7 10 16\n\
     chunk 1 1 1 2 10 12 16\n\
     clock 2 4\n\
-    account 1 43 13\n\
+    account 1 30 0\n\
     account 2 2 2\n\
     chunk 2 2 1 1 17 18 22\n\
     chunk 2 2 3 1 18 19 23\n\
@@ -69,7 +69,7 @@ const MIXED_ANSWERS: &str = "open 3 2\n\
     clock 17 3\n\
     no 8\n\
     yes 4 22 25 1\n\
-    account 2 20 20\n";
+    account 2 17 17\n";
 
 #[test]
 fn a_mixed_day_by_hand() {

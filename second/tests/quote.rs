@@ -55,7 +55,7 @@ const LISTING_ANSWERS: &str = "open 3 2\n\
     chunk 2 2 3 3 10 13 19\n\
     clock 10 3\n\
     no 6\n\
-    account 1 36 6\n\
+    account 1 30 0\n\
     account 2 9 9\n";
 
 #[test]

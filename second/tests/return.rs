@@ -36,7 +36,7 @@ const LISTING: &str = "farm 3 1 2 0 0 1 30 0\n\
 ///
 /// 2 units by 12 would be back at 8. Job 1 then has 18 ticks from 2 on, too few.
 ///
-/// Show 1 holds 16 + 16 + 19 = 51, 21 above its 30. Show 2 holds 12.
+/// From the sends on show 1 holds 16 + 12 + 12 = 40, 10 above its 30. Show 2 holds 12.
 const LISTING_ANSWERS: &str = "open 3 2\n\
     no 8\n\
     yes 1 0 19 3\n\
@@ -47,7 +47,7 @@ const LISTING_ANSWERS: &str = "open 3 2\n\
     chunk 1 1 3 3 7 10 19\n\
     chunk 2 2 1 3 16 19 28\n\
     clock 16 4\n\
-    account 1 51 21\n\
+    account 1 40 10\n\
     account 2 12 12\n";
 
 #[test]
@@ -125,6 +125,8 @@ fn own_compute_costs_have_the_farms_way_back() {
 ///
 /// Without job 1 a walk books job 2 on node 1 from 0 to 12. Job 3 then has node 2
 /// from 4, where 20 ticks hold 6, or both from 12, where 12 ticks hold 4 + 2.
+///
+/// The chunks as booked with job 1 hold 6 + 6 and 12 + 9.
 #[test]
 fn an_old_job_fails_because_of_the_way_back() {
     let lines = "job 1 1 3\njob 1 4 12\njob 1 7 24\nwithdraw 1\njob 1 1 1000\nclock 11\n";
@@ -133,7 +135,7 @@ fn an_old_job_fails_because_of_the_way_back() {
         "open 2 1\nyes 1 0 3 1\nyes 2 3 11 2\nyes 3 11 24 2\ngone 1\nno 8\n\
          chunk 2 1 2 2 3 5 9\nchunk 2 1 1 2 5 7 11\n\
          chunk 3 1 2 4 11 15 23\nchunk 3 1 1 3 15 18 24\nclock 11 4\n\
-         account 1 39 39\n",
+         account 1 33 33\n",
     );
     // With r = 0 each job takes one node, and the offer is taken.
     check(
@@ -159,7 +161,8 @@ fn p_has_its_limits_without_r() {
 /// 502,464 * 1,020,000 = 512,515,280,000. The second send ends at 2,000,000 +
 /// 1,000,000 * 10,000, its audio is back 1,000,000 + 497,536 * 1,010,000 later, at
 /// 512,514,360,000. With one unit less on the first the second ends at
-/// 512,515,370,000.
+/// 512,515,370,000. The chunks hold twice the setups and the units' ticks: 4,000,000 +
+/// 1,000,000 * 1,020,000.
 ///
 /// One node holds 980,390 units in the 10^12 ticks: 2,000,000 + 980,390 *
 /// 1,020,000 = 999,999,800,000. For one unit more two nodes are needed; the first
@@ -172,7 +175,7 @@ fn the_greatest_figures() {
         "open 2 1\nyes 1 0 512515280000 2\n\
          chunk 1 1 1 502464 0 5025640000 512515280000\n\
          chunk 1 1 2 497536 5025640000 10002000000 512514360000\nclock 0 2\n\
-         account 1 1025029640000 25029640000\n",
+         account 1 1020004000000 20004000000\n",
     );
     check(
         &format!("{farm}job 1 980390 1000000000000\n"),

@@ -107,7 +107,7 @@ const NEEDED_ANSWERS: &str = "open 2 1\nyes 1 0 2 1\nyes 2 2 9 2\nyes 3 9 20 2\n
 /// Without job 1 a walk books job 2 on node 1 from 0 to 10. Job 3 then has node 2
 /// from 5, where 15 ticks hold 7, or both from 10, where 10 ticks hold 5 + 2. It
 /// fails, so one unit by the last tick is refused as well. Jobs 2 and 3 are
-/// issued as they were booked with job 1.
+/// issued as they were booked with job 1, and hold 6 + 4 and 10 + 6.
 #[test]
 fn an_old_job_fails_in_the_next_walk() {
     check(
@@ -116,7 +116,7 @@ fn an_old_job_fails_in_the_next_walk() {
             "{NEEDED_ANSWERS}gone 1\nno 8\n\
              chunk 2 1 2 3 2 5 8\nchunk 2 1 1 2 5 7 9\n\
              chunk 3 1 2 5 9 14 19\nchunk 3 1 1 3 14 17 20\nclock 9 4\n\
-             account 1 34 34\n"
+             account 1 26 26\n"
         ),
     );
 }

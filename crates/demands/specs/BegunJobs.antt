@@ -2,7 +2,7 @@
 use mathlib.Core.Path.{_≡_, refl, ap, ap₂, sym, subst, _∙_}
 use mathlib.Core.List.{List, [], _∷_, _++_, map, append-assoc, List·Permᴰ, List·Permᴰ·trans, Permᴰ·symm, Permᴰ·append-left}
 use Prim.Native.Nat.{ℕ}
-use Rattle.lists.specs.Laws.{map-join}
+use Rattle.lists.specs.Laws.{All, all-join, map-join}
 use Rattle.limits.specs.declared.FarmCosts.{FarmCosts}
 use Rattle.walk.specs.declared.Job.{Job}
 use Rattle.walk.specs.declared.Chunk.{Chunk}
@@ -11,8 +11,9 @@ use Rattle.walk.specs.Order.{by-start-perm, by-start-grows}
 use Rattle.lists.specs.Keep.{keep-perm}
 use Rattle.timetable.specs.ByStart.{starts-split}
 use Rattle.planner.specs.declared.Farm.{Farm}
-use Rattle.planner.specs.Model.{Span, spansOf, spansOfAll, byStart, waitingOf}
+use Rattle.planner.specs.Model.{Span, linesOf, spansOf, spansOfAll, byStart, waitingOf}
 use Rattle.planner.specs.Clock.{keep, startsAfter, linesOfAll, begun, left}
+use Rattle.demands.specs.CallLists.{chunkOf}
 
 -- the jobs that wait on, in order of start
 abbrev pub later : Farm → ℕ → List Job
@@ -32,15 +33,23 @@ begun-left f t = List·Permᴰ·trans (subst (List·Permᴰ (waitingOf f)) (begu
 
 -- ---- Spans and lines of several jobs
 
+-- The lines of two groups of jobs are those of the one, then those of the other.
+pub lines-joined : (c : FarmCosts) (xs ys : List Job) → linesOfAll c (xs ++ ys) ≡ linesOfAll c xs ++ linesOfAll c ys
+unfolding linesOfAll
+lines-joined c [] ys = refl
+lines-joined c (j ∷ xs) ys = ap (λ (l : List Chunk). linesOf c j ++ l) (lines-joined c xs ys) ∙ sym (append-assoc (linesOf c j) (linesOfAll c xs) (linesOfAll c ys))
+
+-- What holds of each job's lines holds of all.
+pub lines-all : (P : Chunk → Type 0) (c : FarmCosts) (js : List Job) → All (λ (j : Job). All P (linesOf c j)) js → All P (linesOfAll c js)
+unfolding linesOfAll
+lines-all P c [] h = tt
+lines-all P c (j ∷ js) h = all-join P (linesOf c j) (linesOfAll c js) (h .0) (lines-all P c js (h .1))
+
 -- The spans of two groups of jobs are those of the one, then those of the other.
 pub spans-append : (c : FarmCosts) (xs ys : List Job) → spansOfAll c (xs ++ ys) ≡ spansOfAll c xs ++ spansOfAll c ys
 unfolding spansOfAll
 spans-append c [] ys = refl
 spans-append c (j ∷ xs) ys = ap (λ (l : List Span). spansOf c j ++ l) (spans-append c xs ys) ∙ sym (append-assoc (spansOf c j) (spansOfAll c xs) (spansOfAll c ys))
-
--- the line of a span
-abbrev pub chunkOf : Span → Chunk
-chunkOf x = x .chunk
 
 -- The chunks of jobs' spans are their lines.
 pub spans-chunks : (c : FarmCosts) (js : List Job) → map chunkOf (spansOfAll c js) ≡ linesOfAll c js

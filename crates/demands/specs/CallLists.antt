@@ -15,7 +15,7 @@ use Rattle.walk.specs.declared.Job.{Job}
 use Rattle.walk.specs.declared.Chunk.{Chunk}
 use Rattle.planner.specs.declared.Farm.{Farm}
 use Rattle.answers.specs.declared.Offer.{Offer}
-use Rattle.planner.specs.Model.{costsFor, Span, linesOf, spansOf, waitingOf}
+use Rattle.planner.specs.Model.{costsFor, Span, linesOf, waitingOf}
 use Rattle.planner.specs.Calls.{Said, ofNumber, computeOf, planned, offerSaid, offerFarm, quoteSaid, withdrawSaid, withdrawFarm}
 use Rattle.planner.specs.Clock.{holds, moveSaid, moveFarm, moveMemory}
 
@@ -46,16 +46,24 @@ handed f (move t m) = moveFarm f t (length m)
 abbrev pub isGranted : Farm → Call → Bool
 isGranted f c = eqb (reply f c .number) 0
 
--- a line with the start that its job has at the move
-abbrev pub withStart : Farm → Chunk → Span
-withStart f x = record { from = ofNumber (x .job) (waitingOf f) .booking .start; chunk = x }
-
 -- the chunks that it issues: as many records as it answers, from the front of the memory that it hands back
-abbrev pub linesBy : Farm → Call → List Span
+abbrev pub linesBy : Farm → Call → List Chunk
 linesBy f (offer o) = []
 linesBy f (quote o) = []
 linesBy f (withdraw n) = []
-linesBy f (move t m) = cond (isGranted f (move t m)) (map (withStart f) (take (getD (moveSaid f t (length m) .values) 1 0) (moveMemory f t m))) []
+linesBy f (move t m) = cond (isGranted f (move t m)) (take (getD (moveSaid f t (length m) .values) 1 0) (moveMemory f t m)) []
+
+-- a chunk with the start that its job has at the move, where its node's span begins
+abbrev pub withStart : Farm → Chunk → Span
+withStart f x = record { from = ofNumber (x .job) (waitingOf f) .booking .start; chunk = x }
+
+-- the spans of the chunks that it issues
+abbrev pub spansBy : Farm → Call → List Span
+spansBy f c = map (withStart f) (linesBy f c)
+
+-- the chunk of a span
+abbrev pub chunkOf : Span → Chunk
+chunkOf x = x .chunk
 
 -- a job as it was accepted
 pub record Accepted : Type 0 where
@@ -95,11 +103,12 @@ timeBy f u (move t m) = cond (isGranted f (move t m)) t u
 
 -- ---- A list of calls
 
--- the farm, and what was noted: every chunk issued, every job accepted, the number of every job withdrawn, the latest plan, and the time of the last granted
--- move
+-- the farm, and what was noted: every chunk issued, their spans, every job accepted, the number of every job withdrawn, the latest plan, and the time of the
+-- last granted move
 pub record History : Type 0 where
   pub farm : Farm
-  pub lines : List Span
+  pub lines : List Chunk
+  pub spans : List Span
   pub jobs : List Accepted
   pub gone : List ℕ
   pub latest : List Job
@@ -107,13 +116,14 @@ pub record History : Type 0 where
 
 -- after an opening that handed this farm back
 abbrev pub opening : Farm → History
-opening f = record { farm = f; lines = []; jobs = []; gone = []; latest = []; time = 0 }
+opening f = record { farm = f; lines = []; spans = []; jobs = []; gone = []; latest = []; time = 0 }
 
 -- after one call more
 abbrev pub note : History → Call → History
 note w c = record {
   farm = handed (w .farm) c;
   lines = w .lines ++ linesBy (w .farm) c;
+  spans = w .spans ++ spansBy (w .farm) c;
   jobs = w .jobs ++ jobsBy (w .farm) c;
   gone = w .gone ++ goneBy (w .farm) c;
   latest = planBy (w .farm) (w .latest) c;
@@ -146,9 +156,9 @@ otherAnswers f cs = keep (λ (a : Call × Said). noQuote (a .0)) (answersOf f cs
 -- ---- What is compared
 
 -- the sum over the issued chunks of a show
-unfoldable pub heldOf : ℕ → List Span → ℕ
+unfoldable pub heldOf : ℕ → List Chunk → ℕ
 heldOf s [] = 0
-heldOf s (x ∷ xs) = cond (eqb (x .chunk .show) s) (holds x + heldOf s xs) (heldOf s xs)
+heldOf s (x ∷ xs) = cond (eqb (x .show) s) (holds x + heldOf s xs) (heldOf s xs)
 
 -- the job numbers 1, 2, 3, …, n
 unfoldable pub upTo : ℕ → List ℕ
@@ -156,19 +166,19 @@ upTo zero = []
 upTo (suc n) = upTo n ++ suc n ∷ []
 
 -- the issued chunks of a job
-unfoldable pub linesFor : ℕ → List Span → List Span
+unfoldable pub linesFor : ℕ → List Chunk → List Chunk
 linesFor n [] = []
-linesFor n (x ∷ xs) = cond (eqb (x .chunk .job) n) (x ∷ linesFor n xs) (linesFor n xs)
+linesFor n (x ∷ xs) = cond (eqb (x .job) n) (x ∷ linesFor n xs) (linesFor n xs)
 
 -- the latest finish of an issued chunk on node k, 0 where there is none
-unfoldable pub latestFinish : ℕ → List Span → ℕ
+unfoldable pub latestFinish : ℕ → List Chunk → ℕ
 latestFinish k [] = 0
-latestFinish k (x ∷ xs) = cond (eqb (x .chunk .node) k) (max (x .chunk .finish) (latestFinish k xs)) (latestFinish k xs)
+latestFinish k (x ∷ xs) = cond (eqb (x .node) k) (max (x .finish) (latestFinish k xs)) (latestFinish k xs)
 
 -- the latest end of an issued send, 0 where there is none
-unfoldable pub latestSent : List Span → ℕ
+unfoldable pub latestSent : List Chunk → ℕ
 latestSent [] = 0
-latestSent (x ∷ xs) = max (x .chunk .sent) (latestSent xs)
+latestSent (x ∷ xs) = max (x .sent) (latestSent xs)
 
 -- the units of chunks together
 unfoldable pub unitsIn : List Chunk → ℕ
@@ -192,11 +202,6 @@ pub record Fulfils (c : FarmCosts) (x : Accepted) (ls : List Chunk) : Type 0 whe
   pub sent : All (λ (y : Chunk). y .sent ≡ sendEnd (acceptedCosts c x) (y .start) (y .units)) ls
   pub finish : All (λ (y : Chunk). y .finish ≡ chunkFinish (acceptedCosts c x) (y .start) (y .units)) ls
   pub ends : All (λ (y : Chunk). y .finish ≤ x .deadline) ls
-
--- every one of these chunks has as its job's start the send start of the first
-abbrev pub FromFirst : List Span → Type 0
-FromFirst [] = Unit
-FromFirst (y ∷ ys) = All (λ (x : Span). x .from ≡ y .chunk .start) (y ∷ ys)
 
 -- ---- The lifecycle of a job
 
@@ -222,8 +227,8 @@ Withdraws f (withdraw k) n = (isGranted f (withdraw k) ≡ true) × (k ≡ n)
 Withdraws f (move t m) n = ⊥
 
 -- no chunk of job n is among these
-abbrev pub NoneOf : ℕ → List Span → Type 0
-NoneOf n xs = All (λ (y : Span). y .chunk .job ≡ n → ⊥) xs
+abbrev pub NoneOf : ℕ → List Chunk → Type 0
+NoneOf n xs = All (λ (y : Chunk). y .job ≡ n → ⊥) xs
 
 -- none of these calls issues a chunk of job n
 abbrev pub IssuesNone : ℕ → Farm → List Call → Type 0
@@ -238,7 +243,7 @@ pub data Lifecycle (x : Accepted) : Farm → List Call → Type 0 where
   passes : {f : Farm} {c : Call} {cs : List Call} (h : Waits x f) → (Reaches f c (h .job .booking .start) → ⊥) → (Withdraws f c (x .number) → ⊥) → NoneOf (x .number) (linesBy f c)
       → Lifecycle x (handed f c) cs → Lifecycle x f (c ∷ cs)
   -- it waits, and the call is a granted clock move that reaches the start it has then: all its chunks are issued, each once, and none later
-  begins : {f : Farm} {c : Call} {cs : List Call} (h : Waits x f) → Reaches f c (h .job .booking .start) → linesFor (x .number) (linesBy f c) ≡ spansOf (f .costs) (h .job)
+  begins : {f : Farm} {c : Call} {cs : List Call} (h : Waits x f) → Reaches f c (h .job .booking .start) → linesFor (x .number) (linesBy f c) ≡ linesOf (f .costs) (h .job)
       → IssuesNone (x .number) (handed f c) cs → Lifecycle x f (c ∷ cs)
   -- it waits, and the call is a granted withdrawal of it: no chunk of it is issued then or later
   withdrawn : {f : Farm} {c : Call} {cs : List Call} (h : Waits x f) → Withdraws f c (x .number) → NoneOf (x .number) (linesBy f c) → IssuesNone (x .number) (handed f c) cs

@@ -42,6 +42,7 @@ use Rattle.shares.specs.Lists.{Positive}
 use Rattle.booking.specs.Best.{freeAt, units}
 use Rattle.walk.specs.declared.Job.{Job}
 use Rattle.walk.specs.declared.Busy.{Busy}
+use Rattle.walk.specs.declared.Chunk.{Chunk}
 use Rattle.planner.specs.declared.Farm.{Farm}
 use Rattle.answers.specs.declared.Offer.{Offer}
 use Rattle.planner.specs.Model.{between, costsWithin, ownCosts, Span, linesOf, spansOf, spansOfAll, Sized, after, afters, byDeadline, byStart, plan, waitingOf, busyOf, termsOf, Between, Apart}
@@ -55,27 +56,27 @@ use Rattle.soundness.specs.Sweep.{spans-all, spans-perm, apart-sym}
 use Rattle.demands.specs.QuestionEleven.{passes-iff}
 use Rattle.planner.specs.Calls.{ofNumber, without, Open, Said, granted, refused, showsWithin, openFarm, openSaid, heldBy, newJob, queueOf, planned, withPlan, asQuote, withdrawnFarm}
 use Rattle.demands.specs.OfferPasses.{waiting-planned}
-use Rattle.planner.specs.Clock.{begun, issued, moveAsked}
+use Rattle.planner.specs.Clock.{linesOfAll, begun, issued, moveAsked}
 use Rattle.demands.specs.Starts.{StartsDiffer, starts-differ, next-few, next-granted}
-use Rattle.demands.specs.CallLists.{Call, offer, quote, withdraw, move, reply, handed, isGranted, linesBy, Accepted, jobsBy, History, opening, note, run, answersOf, withoutQuotes, otherAnswers, heldOf, upTo, linesFor, latestFinish, latestSent, acceptedOf, Fulfils, FromFirst, Waits, IssuesNone, Lifecycle}
-use Rattle.demands.specs.BegunJobs.{chunkOf}
+use Rattle.demands.specs.CallLists.{Call, offer, quote, withdraw, move, reply, handed, isGranted, linesBy, chunkOf, Accepted, jobsBy, History, opening, note, run, answersOf, withoutQuotes, otherAnswers, heldOf, upTo, linesFor, latestFinish, latestSent, acceptedOf, Fulfils, Waits, IssuesNone, Lifecycle}
+use Rattle.demands.specs.BegunJobs.{lines-all}
 use Rattle.queue.specs.Numbers.{numberOfJob, of-number-has}
 use Rattle.demands.specs.WithdrawPasses.{leaves-others, withdrawn-waiting}
 use Rattle.demands.specs.MovePasses.{Waiting, waiting-jobs, booked-chain}
 use Rattle.demands.specs.Outcome.{taken, Takes, Leaves, Moves, outcome}
-use Rattle.demands.specs.Invariant.{idle, Whole, Inv, plan-accepted, whole-proper, open-inv, note-inv, run-inv}
+use Rattle.demands.specs.Invariant.{idle, Whole, Inv, plan-accepted, spans-issued, busy-spans, whole-proper, open-inv, note-inv, run-inv}
 use Rattle.demands.specs.Quotes.{quote-next, run-without, answers-without}
-use Rattle.demands.specs.Lifecycles.{spans-named, none-of-jobs, lines-none, lines-own, whole-fulfils, spans-first, waits-as, NoLongerWaits, issues-no-more, begun-no-longer-waits, front-differ, none-before, Among, lifecycle}
+use Rattle.demands.specs.Lifecycles.{lines-named, none-of-jobs, lines-none, lines-own, spans-start, whole-fulfils, waits-as, NoLongerWaits, issues-no-more, begun-no-longer-waits, front-differ, none-before, Among, lifecycle}
 
 -- ---- The claim
 
--- A job accepted as x has been issued: the issued chunks of its number are those of one booking, each once, that do what was accepted.
+-- A job accepted as x has been issued: the issued chunks of its number are those of one booking, each once, that do what was accepted, and their spans begin
+-- at its start.
 pub record Issued (x : Accepted) (w : History) : Type 0 where
   pub job : Job
   pub same : acceptedOf job ≡ x
-  pub lines : linesFor (x .number) (w .lines) ≡ spansOf (w .farm .costs) job
-  -- the start noted with each is the send start of the first
-  pub start : FromFirst (linesFor (x .number) (w .lines))
+  pub lines : linesFor (x .number) (w .lines) ≡ linesOf (w .farm .costs) job
+  pub start : All (λ (y : Span). y .chunk .job ≡ x .number → y .from ≡ job .booking .start) (w .spans)
   pub chunks : Fulfils (w .farm .costs) x (linesOf (w .farm .costs) job)
 
 -- A job accepted as x waits: none of its chunks has been issued, those booked do what was accepted, as the latest walk that replaced the plan gave
@@ -131,12 +132,13 @@ pub record Demand3 (f : Farm) (cs : List Call) (w : History) : Type 0 where
   pub stories : (before : List Call) (c : Call) (after : List Call) → Split cs before c after
       → All (λ (x : Accepted). Lifecycle x (handed (run (opening f) before .farm) c) after) (jobsBy (run (opening f) before .farm) c)
   -- No others are ever issued.
-  pub only : All (λ (y : Span). List·Memᴰ (y .chunk .job) (map (λ (x : Accepted). x .number) (w .jobs))) (w .lines)
+  pub only : All (λ (y : Chunk). List·Memᴰ (y .job) (map (λ (x : Accepted). x .number) (w .jobs))) (w .lines)
   -- No later call alters an issued chunk: none issues a chunk of its job.
   pub unaltered : (before : List Call) (c : Call) (after : List Call) → Split cs before c after
-      → All (λ (y : Span). IssuesNone (y .chunk .job) (handed (run (opening f) before .farm) c) after) (linesBy (run (opening f) before .farm) c)
-  -- No two chunks, issued or booked, share a tick of a node or of the link.
-  pub apart : Pairs Apart (w .lines ++ spansOfAll (w .farm .costs) (waitingOf (w .farm)))
+      → All (λ (y : Chunk). IssuesNone (y .job) (handed (run (opening f) before .farm) c) after) (linesBy (run (opening f) before .farm) c)
+  -- No two chunks, issued or booked, share a tick of a node or of the link. The spans noted are those of the chunks issued.
+  pub apart : Pairs Apart (w .spans ++ spansOfAll (w .farm .costs) (waitingOf (w .farm)))
+  pub spans : map chunkOf (w .spans) ≡ w .lines
   -- Each show's held ticks equal the sum over its issued chunks.
   pub held : (s : ℕ) → Between 1 s (w .farm .shows) → heldBy (w .farm) s ≡ heldOf s (w .lines)
   -- Each node's free time is the latest finish of a chunk issued on it, and the link's the latest end of an issued send.
@@ -184,15 +186,15 @@ latest-one k b x r v false e l h p q i =
 
 -- Behind a chain each node's free time is the latest finish on it.
 free-latest : (k : ℕ) (b : Busy) (xs : List Span) → length (b .free) ≡ 64 → 1 ≤ k → All (Proper 64) xs → Chain b xs
-    → freeAt (afters b (map chunkOf xs) .free) k ≡ max (freeAt (b .free) k) (latestFinish k xs)
+    → freeAt (afters b (map chunkOf xs) .free) k ≡ max (freeAt (b .free) k) (latestFinish k (map chunkOf xs))
 unfolding afters latestFinish
 free-latest k b [] l h p q = omega arith
 free-latest k b (x ∷ xs) l h p q =
-    latest-one k b x (latestFinish k xs) (freeAt (afters (after b (x .chunk)) (map chunkOf xs) .free) k) (eqb (x .chunk .node) k) refl l h (p .0) (q .0)
+    latest-one k b x (latestFinish k (map chunkOf xs)) (freeAt (afters (after b (x .chunk)) (map chunkOf xs) .free) k) (eqb (x .chunk .node) k) refl l h (p .0) (q .0)
     (free-latest k (after b (x .chunk)) xs (after-length b (x .chunk) ∙ l) h (p .1) (q .1))
 
 -- The link's free time is the latest end of a send.
-link-latest : (b : Busy) (xs : List Span) → All (Proper 64) xs → Chain b xs → afters b (map chunkOf xs) .link ≡ max (b .link) (latestSent xs)
+link-latest : (b : Busy) (xs : List Span) → All (Proper 64) xs → Chain b xs → afters b (map chunkOf xs) .link ≡ max (b .link) (latestSent (map chunkOf xs))
 unfolding afters latestSent
 link-latest b [] p q = omega arith
 link-latest b (x ∷ xs) p q = omega (arith, link-latest (after b (x .chunk)) xs (p .1) (q .1), p .0 .sends, q .0 .0)
@@ -240,15 +242,15 @@ module _ (w : History) (i : Inv w) where
   all-differ : Differ keptNumbers
   all-differ = pairs-parts (λ (a b : ℕ). a ≡ b → ⊥) goneNumbers keptNumbers numbers-differ .1
 
-  past-lines : (j : Job) → List·Memᴰ j (i .past) → linesFor (j .number) (w .lines) ≡ spansOf (w .farm .costs) j
-  past-lines j m = ap (linesFor (j .number)) (i .lines) ∙ lines-own (w .farm .costs) (i .past) j (front-differ (i .past) (waitingOf (w .farm)) all-differ) m
+  past-differ : Differ (map numberOfJob (i .past))
+  past-differ = front-differ (i .past) (waitingOf (w .farm)) all-differ
 
   past-issued : All (λ (j : Job). Issued (acceptedOf j) w) (i .past)
   past-issued = all-of (i .past) (λ j m. record {
     job = j;
     same = refl;
-    lines = past-lines j m;
-    start = subst FromFirst (sym (past-lines j m)) (spans-first (w .farm .costs) j);
+    lines = ap (linesFor (j .number)) (i .lines) ∙ lines-own (w .farm .costs) (i .past) j past-differ m;
+    start = subst (All (λ (y : Span). y .chunk .job ≡ j .number → y .from ≡ j .booking .start)) (sym (i .spans)) (spans-start (w .farm .costs) (i .past) j past-differ m);
     chunks = whole-fulfils (w .farm .costs) (w .farm .shows) j (at-member (Whole (w .farm .costs) (w .farm .shows)) m (i .whole));
   })
 
@@ -261,7 +263,7 @@ module _ (w : History) (i : Inv w) where
   waiting-booked = all-of (waitingOf (w .farm)) (λ j m. record {
     waits = waits-as (w .farm) j (acceptedOf j) (i .sized) (i .passes) m refl;
     lines = ap (linesFor (j .number)) (i .lines)
-        ∙ lines-none (j .number) (spansOfAll (w .farm .costs) (i .past)) (none-of-jobs (w .farm .costs) (j .number) (i .past) (none-before (i .past) (waitingOf (w .farm)) all-differ j m));
+        ∙ lines-none (j .number) (linesOfAll (w .farm .costs) (i .past)) (none-of-jobs (w .farm .costs) (j .number) (i .past) (none-before (i .past) (waitingOf (w .farm)) all-differ j m));
     latest = at-member (λ (x : Job). List·Memᴰ x (w .latest)) m (i .latest);
     early = job-early j (at-member (Waiting (w .farm)) m (waiting-jobs (w .farm) (i .sized) (i .passes)));
   })
@@ -280,7 +282,7 @@ module _ (w : History) (i : Inv w) where
         named = perm-mem (Permᴰ·symm (i .named)) m;
         accepted = perm-mem (Permᴰ·map (λ (x : Accepted). x .number) (Permᴰ·symm (i .jobs)))
             (subst (List·Memᴰ n) (sym (map-join (λ (x : Accepted). x .number) (i .gone) (map acceptedOf (i .past ++ waitingOf (w .farm))))) (mem-left _ m));
-        lines = ap (linesFor n) (i .lines) ∙ lines-none n (spansOfAll (w .farm .costs) (i .past)) (none-of-jobs (w .farm .costs) n (i .past) (parts .0));
+        lines = ap (linesFor n) (i .lines) ∙ lines-none n (linesOfAll (w .farm .costs) (i .past)) (none-of-jobs (w .farm .costs) n (i .past) (parts .0));
         waits = parts .1;
       })
 
@@ -308,39 +310,40 @@ module _ (w : History) (i : Inv w) where
   past-number : (j : Job) → List·Memᴰ j (i .past ++ waitingOf (w .farm)) → List·Memᴰ (acceptedOf j) (w .jobs)
   past-number j m = perm-mem (Permᴰ·symm (i .jobs)) (mem-right (i .gone) (mem-image acceptedOf m))
 
-  only-jobs : All (λ (y : Span). List·Memᴰ (y .chunk .job) (map (λ (x : Accepted). x .number) (w .jobs))) (w .lines)
+  only-jobs : All (λ (y : Chunk). List·Memᴰ (y .job) (map (λ (x : Accepted). x .number) (w .jobs))) (w .lines)
   only-jobs =
-      let P : Span → Type 0 = λ (y : Span). List·Memᴰ (y .chunk .job) (map (λ (x : Accepted). x .number) (w .jobs)) in
-      subst (All P) (sym (i .lines)) (spans-all P (w .farm .costs) (i .past) (all-of (i .past) (λ j m.
+      let P : Chunk → Type 0 = λ (y : Chunk). List·Memᴰ (y .job) (map (λ (x : Accepted). x .number) (w .jobs)) in
+      subst (All P) (sym (i .lines)) (lines-all P (w .farm .costs) (i .past) (all-of (i .past) (λ j m.
       all-map (λ y e. subst (λ (n : ℕ). List·Memᴰ n (map (λ (x : Accepted). x .number) (w .jobs))) (sym e) (mem-image (λ (x : Accepted). x .number) (past-number j (mem-left (waitingOf (w .farm)) m))))
-      (spansOf (w .farm .costs) j) (spans-named (w .farm .costs) j))))
+      (linesOf (w .farm .costs) j) (lines-named (w .farm .costs) j))))
 
-  lines-proper : All (Proper 64) (w .lines)
-  lines-proper = subst (All (Proper 64)) (sym (i .lines)) (whole-proper (w .farm .costs) (w .farm .shows) (i .past) (i .whole))
+  spans-proper : All (Proper 64) (w .spans)
+  spans-proper = subst (All (Proper 64)) (sym (i .spans)) (whole-proper (w .farm .costs) (w .farm .shows) (i .past) (i .whole))
 
-  all-apart : Pairs Apart (w .lines ++ spansOfAll (w .farm .costs) (waitingOf (w .farm)))
+  all-apart : Pairs Apart (w .spans ++ spansOfAll (w .farm .costs) (waitingOf (w .farm)))
   all-apart =
       let f = w .farm in
       let c = f .costs in
       let order = byStart (waitingOf f) in
       let proper : All (Proper 64) (spansOfAll c order) =
       spans-all (Proper 64) c order (perm-all (λ (j : Job). All (Proper 64) (spansOf c j)) (by-start-perm (waitingOf f)) (all-map (λ j h. h .proper) (waitingOf f) (waiting-jobs f (i .sized) (i .passes)))) in
-      let chain : Chain idle (w .lines ++ spansOfAll c order) =
-      chain-append idle (w .lines) (spansOfAll c order) .1 (i .chain, subst (λ (b : Busy). Chain b (spansOfAll c order)) (i .busy) (booked-chain f (i .sized) (i .passes))) in
-      perm-pairs Apart apart-sym (Permᴰ·append-left (w .lines) (spans-perm c (Permᴰ·symm (by-start-perm (waitingOf f)))))
-      (chain-apart idle (w .lines ++ spansOfAll c order) (length-replicate {A = ℕ} 64 0) (all-join (Proper 64) (w .lines) (spansOfAll c order) lines-proper proper) chain)
+      let chain : Chain idle (w .spans ++ spansOfAll c order) =
+      chain-append idle (w .spans) (spansOfAll c order) .1 (i .chain, subst (λ (b : Busy). Chain b (spansOfAll c order)) (busy-spans w i) (booked-chain f (i .sized) (i .passes))) in
+      perm-pairs Apart apart-sym (Permᴰ·append-left (w .spans) (spans-perm c (Permᴰ·symm (by-start-perm (waitingOf f)))))
+      (chain-apart idle (w .spans ++ spansOfAll c order) (length-replicate {A = ℕ} 64 0) (all-join (Proper 64) (w .spans) (spansOfAll c order) spans-proper proper) chain)
 
   node-free : (k : ℕ) → Between 1 k (w .farm .nodes) → freeAt (w .farm .free) k ≡ latestFinish k (w .lines)
   node-free k h =
       let n = passes-iff (w .farm) (i .sized) .0 (i .passes) .within .nodes .1 in
       let zero′ : freeAt (replicate 64 0) k ≡ 0 = getD-replicate 64 (k - 1) 0 0 (omega (arith, h .0, h .1)) in
-      let now : freeAt (w .farm .free) k ≡ freeAt (afters idle (map chunkOf (w .lines)) .free) k = ap (λ (b : Busy). freeAt (b .free) k) (i .busy) in
-      omega (arith, zero′, now, free-latest k idle (w .lines) (length-replicate {A = ℕ} 64 0) (h .0) lines-proper (i .chain))
+      let now : freeAt (w .farm .free) k ≡ freeAt (afters idle (map chunkOf (w .spans)) .free) k = ap (λ (b : Busy). freeAt (b .free) k) (busy-spans w i) in
+      subst (λ (l : List Chunk). freeAt (w .farm .free) k ≡ latestFinish k l) (spans-issued w i)
+      (omega (arith, zero′, now, free-latest k idle (w .spans) (length-replicate {A = ℕ} 64 0) (h .0) spans-proper (i .chain)))
 
   link-free : w .farm .link ≡ latestSent (w .lines)
   link-free =
-      let now : w .farm .link ≡ afters idle (map chunkOf (w .lines)) .link = ap (λ (b : Busy). b .link) (i .busy) in
-      omega (arith, now, link-latest idle (w .lines) lines-proper (i .chain))
+      let now : w .farm .link ≡ afters idle (map chunkOf (w .spans)) .link = ap (λ (b : Busy). b .link) (busy-spans w i) in
+      subst (λ (l : List Chunk). w .farm .link ≡ latestSent l) (spans-issued w i) (omega (arith, now, link-latest idle (w .spans) spans-proper (i .chain)))
 
 -- ---- One call of the list
 
@@ -395,22 +398,22 @@ call-withdrawal f n z e = ⊎-elim (λ r. absurd (false≢true (sym (r .says) �
         }
 
 -- No call after it issues a chunk of a job that a call has issued.
-issued-issues-none : (w : History) (c : Call) (cs : List Call) → Inv w → All (λ (y : Span). IssuesNone (y .chunk .job) (handed (w .farm) c) cs) (linesBy (w .farm) c)
+issued-issues-none : (w : History) (c : Call) (cs : List Call) → Inv w → All (λ (y : Chunk). IssuesNone (y .job) (handed (w .farm) c) cs) (linesBy (w .farm) c)
 issued-issues-none w (offer o) cs i = tt
 issued-issues-none w (quote o) cs i = tt
 issued-issues-none w (withdraw n) cs i = tt
 issued-issues-none w (move t m) cs i = ⊎-elim (λ r. subst (All P) (sym (r .lines)) tt) moves (outcome (w .farm) (move t m) (i .sized))
   where
-    P : Span → Type 0
-    P y = IssuesNone (y .chunk .job) (handed (w .farm) (move t m)) cs
+    P : Chunk → Type 0
+    P y = IssuesNone (y .job) (handed (w .farm) (move t m)) cs
 
     moves : Moves (w .farm) t m → All P (linesBy (w .farm) (move t m))
     moves k =
         let f = w .farm in
-        subst (All P) (sym (k .lines)) (spans-all P (f .costs) (begun f t) (all-of (begun f t) (λ j h.
+        subst (All P) (sym (k .lines)) (lines-all P (f .costs) (begun f t) (all-of (begun f t) (λ j h.
         all-map (λ y e. subst (λ (n : ℕ). IssuesNone n (handed f (move t m)) cs) (sym e)
         (issues-no-more (j .number) (note w (move t m)) cs (note-inv w (move t m) i) (subst (NoLongerWaits (j .number)) (sym (k .hands)) (begun-no-longer-waits f t j (i .sized) (i .passes) h))))
-        (spansOf (f .costs) j) (spans-named (f .costs) j))))
+        (linesOf (f .costs) j) (lines-named (f .costs) j))))
 
 -- ---- The theorem
 
@@ -444,6 +447,7 @@ demand3 n c al e cs =
       only = only-jobs w i;
       unaltered = λ before x after h. issued-issues-none (run (opening f) before) x after (run-inv (opening f) before o);
       apart = all-apart w i;
+      spans = spans-issued w i;
       held = λ s h. i .held s (h .0, omega (arith, h .1, passes-iff (w .farm) (i .sized) .0 (i .passes) .within .shows .1));
       free = node-free w i;
       link = link-free w i;

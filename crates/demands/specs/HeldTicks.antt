@@ -15,8 +15,7 @@ use Rattle.walk.specs.declared.Chunk.{Chunk}
 use Rattle.walk.specs.Chain.{Chain, Proper, after-length}
 use Rattle.planner.specs.Model.{Span, after, afters, Between}
 use Rattle.planner.specs.Clock.{holds, raised}
-use Rattle.demands.specs.CallLists.{heldOf}
-use Rattle.demands.specs.BegunJobs.{chunkOf}
+use Rattle.demands.specs.CallLists.{chunkOf, heldOf}
 
 -- ---- Bounds of the free times
 
@@ -46,35 +45,32 @@ unfolding sum
 sum-within g [] h = omega arith
 sum-within g (x ∷ xs) h = omega (arith, sum-within g xs (h .1))
 
--- what all the chunks hold
-unfoldable pub heldAll : List Span → ℕ
-heldAll [] = 0
-heldAll (x ∷ xs) = holds x + heldAll xs
-
 -- What a show's chunks hold is part of what all hold.
-pub held-part : (s : ℕ) (xs : List Span) → heldOf s xs ≤ heldAll xs
-unfolding heldOf heldAll
+pub held-part : (s : ℕ) (xs : List Chunk) → heldOf s xs ≤ sum (map holds xs)
+unfolding heldOf sum
 held-part s [] = omega arith
-held-part s (x ∷ xs) = go (eqb (x .chunk .show) s) (held-part s xs)
+held-part s (x ∷ xs) = go (eqb (x .show) s) (held-part s xs)
   where
-    go : (b : Bool) → heldOf s xs ≤ heldAll xs → cond b (holds x + heldOf s xs) (heldOf s xs) ≤ holds x + heldAll xs
+    go : (b : Bool) → heldOf s xs ≤ sum (map holds xs) → cond b (holds x + heldOf s xs) (heldOf s xs) ≤ holds x + sum (map holds xs)
     go true h = omega arith
     go false h = omega arith
 
 -- What the chunks of two lists hold adds up.
-pub held-append : (s : ℕ) (xs ys : List Span) → heldOf s (xs ++ ys) ≡ heldOf s xs + heldOf s ys
+pub held-append : (s : ℕ) (xs ys : List Chunk) → heldOf s (xs ++ ys) ≡ heldOf s xs + heldOf s ys
 unfolding heldOf
 held-append s [] ys = omega arith
-held-append s (x ∷ xs) ys = go (eqb (x .chunk .show) s) (held-append s xs ys)
+held-append s (x ∷ xs) ys = go (eqb (x .show) s) (held-append s xs ys)
   where
     go : (b : Bool) → heldOf s (xs ++ ys) ≡ heldOf s xs + heldOf s ys
         → cond b (holds x + heldOf s (xs ++ ys)) (heldOf s (xs ++ ys)) ≡ cond b (holds x + heldOf s xs) (heldOf s xs) + heldOf s ys
     go true h = omega arith
     go false h = h
 
--- Each chunk of a chain moves its node's free time on by at least its span, so that all held ticks are within the sum of the free times.
-pub held-free : (b : Busy) (xs : List Span) → length (b .free) ≡ 64 → All (Proper 64) xs → Chain b xs → heldAll xs + sum (b .free) ≤ sum (afters b (map chunkOf xs) .free)
-unfolding heldAll afters
+-- Each chunk of a chain moves its node's free time on by at least its span, and holds a part of that, so that all held ticks are within the sum of the free
+-- times.
+pub held-free : (b : Busy) (xs : List Span) → length (b .free) ≡ 64 → All (Proper 64) xs → Chain b xs
+    → sum (map holds (map chunkOf xs)) + sum (b .free) ≤ sum (afters b (map chunkOf xs) .free)
+unfolding sum afters
 held-free b [] l p h = omega arith
 held-free b (x ∷ xs) l p h =
     let k = x .chunk .node in
@@ -84,30 +80,30 @@ held-free b (x ∷ xs) l p h =
     omega (arith, p .0 .begins, p .0 .sends, p .0 .ends, h .0 .1)
 
 -- one chunk
-raised-one : (s : ℕ) (hs : List ℕ) (x : Span) (xs : List Span) → 1 ≤ s → Between 1 (x .chunk .show) (length hs) → (b : Bool) → eqb (x .chunk .show) s ≡ b
-    → getD (raised (set hs (x .chunk .show - 1) (getD hs (x .chunk .show - 1) 0 + holds x)) xs) (s - 1) 0 ≡ getD (set hs (x .chunk .show - 1) (getD hs (x .chunk .show - 1) 0 + holds x)) (s - 1) 0 + heldOf s xs
-    → getD (raised (set hs (x .chunk .show - 1) (getD hs (x .chunk .show - 1) 0 + holds x)) xs) (s - 1) 0 ≡ getD hs (s - 1) 0 + cond b (holds x + heldOf s xs) (heldOf s xs)
+raised-one : (s : ℕ) (hs : List ℕ) (x : Chunk) (xs : List Chunk) → 1 ≤ s → Between 1 (x .show) (length hs) → (b : Bool) → eqb (x .show) s ≡ b
+    → getD (raised (set hs (x .show - 1) (getD hs (x .show - 1) 0 + holds x)) xs) (s - 1) 0 ≡ getD (set hs (x .show - 1) (getD hs (x .show - 1) 0 + holds x)) (s - 1) 0 + heldOf s xs
+    → getD (raised (set hs (x .show - 1) (getD hs (x .show - 1) 0 + holds x)) xs) (s - 1) 0 ≡ getD hs (s - 1) 0 + cond b (holds x + heldOf s xs) (heldOf s xs)
 raised-one s hs x xs h k true e rest =
-    let i = x .chunk .show in
+    let i = x .show in
     let new = set hs (i - 1) (getD hs (i - 1) 0 + holds x) in
     let same : getD new (s - 1) 0 ≡ getD hs (s - 1) 0 + holds x =
     subst (λ (n : ℕ). getD new (n - 1) 0 ≡ getD hs (n - 1) 0 + holds x) (eqb-true i s e)
     (getD-set-same hs (i - 1) (getD hs (i - 1) 0 + holds x) 0 (omega (arith, k .0, k .1))) in
     omega (arith, rest, same)
 raised-one s hs x xs h k false e rest =
-    let i = x .chunk .show in
+    let i = x .show in
     let new = set hs (i - 1) (getD hs (i - 1) 0 + holds x) in
     let other : getD new (s - 1) 0 ≡ getD hs (s - 1) 0 =
     getD-set-other hs (i - 1) (s - 1) (getD hs (i - 1) 0 + holds x) 0 (λ q. eqb-false i s e (omega (arith, k .0))) in
     omega (arith, rest, other)
 
 -- Each chunk raises its show's cell, so that the cell is raised by the sum over the show's chunks.
-pub raised-held : (s : ℕ) (hs : List ℕ) (xs : List Span) → 1 ≤ s → All (λ (x : Span). Between 1 (x .chunk .show) (length hs)) xs
+pub raised-held : (s : ℕ) (hs : List ℕ) (xs : List Chunk) → 1 ≤ s → All (λ (x : Chunk). Between 1 (x .show) (length hs)) xs
     → getD (raised hs xs) (s - 1) 0 ≡ getD hs (s - 1) 0 + heldOf s xs
 unfolding raised heldOf
 raised-held s hs [] h k = omega arith
 raised-held s hs (x ∷ xs) h k =
-    let i = x .chunk .show in
+    let i = x .show in
     let new = set hs (i - 1) (getD hs (i - 1) 0 + holds x) in
     raised-one s hs x xs h (k .0) (eqb i s) refl
     (raised-held s new xs h (all-map (λ y b. (b .0, omega (arith, b .1, length-set hs (i - 1) (getD hs (i - 1) 0 + holds x)))) xs (k .1)))

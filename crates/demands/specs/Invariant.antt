@@ -28,10 +28,10 @@ use Rattle.soundness.specs.Sound.{Paired}
 use Rattle.demands.specs.QuestionEleven.{passes-iff}
 use Rattle.planner.specs.Calls.{ofNumber, without, openedWith, showsWithin, openFarm, heldBy, newJob, queueOf, planned, withPlan, withdrawnFarm}
 use Rattle.demands.specs.OfferPasses.{all-replicate, opens-with, open-sized, open-passes, waiting-planned, accepted-sized, accepted-passes}
-use Rattle.planner.specs.Clock.{begun, left, issued, movedFarm}
-use Rattle.demands.specs.CallLists.{Call, offer, quote, withdraw, move, Accepted, History, opening, note, run, heldOf, upTo, acceptedOf}
+use Rattle.planner.specs.Clock.{holds, linesOfAll, begun, left, issued, movedFarm}
+use Rattle.demands.specs.CallLists.{Call, offer, quote, withdraw, move, Accepted, History, withStart, chunkOf, opening, note, run, heldOf, upTo, acceptedOf}
 use Rattle.timetable.specs.BeginSteps.{afters-append}
-use Rattle.demands.specs.BegunJobs.{begun-left, spans-append, chunkOf, spans-chunks}
+use Rattle.demands.specs.BegunJobs.{begun-left, lines-joined, lines-all, spans-append, spans-chunks}
 use Rattle.demands.specs.HeldTicks.{afters-within, sum-within, held-part, held-append, held-free, raised-held}
 use Rattle.demands.specs.WithdrawPasses.{leaves-others, withdrawn-waiting, withdrawn-sized, withdrawn-passes}
 use Rattle.demands.specs.MovePasses.{Waiting, moved-chain, begun-jobs, moved-waiting, moved-sized, moved-passes}
@@ -62,10 +62,11 @@ pub record Inv (w : History) : Type 0 where
   pub passes : passesOf (w .farm) ≡ true
   pub whole : All (Whole (w .farm .costs) (w .farm .shows)) past
   -- what was issued is their chunks, one after the other
-  pub lines : w .lines ≡ spansOfAll (w .farm .costs) past
-  pub chain : Chain idle (w .lines)
+  pub lines : w .lines ≡ linesOfAll (w .farm .costs) past
+  pub spans : w .spans ≡ spansOfAll (w .farm .costs) past
+  pub chain : Chain idle (w .spans)
   -- the farm's free times and held ticks are what it left
-  pub busy : busyOf (w .farm) ≡ afters idle (map chunkOf (w .lines))
+  pub busy : busyOf (w .farm) ≡ afters idle (w .lines)
   pub held : (s : ℕ) → Between 1 s 32 → heldBy (w .farm) s ≡ heldOf s (w .lines)
   -- each accepted job was withdrawn, has begun or waits
   pub jobs : List·Permᴰ (w .jobs) (gone ++ map acceptedOf (past ++ waitingOf (w .farm)))
@@ -89,7 +90,7 @@ waiting-whole f j h = record {
 -- ---- An opening
 
 opened-inv : (n : ℕ) (c : FarmCosts) (al : List ℕ) → Sized (openedWith n c al) → passesOf (openedWith n c al) ≡ true → Inv (opening (openedWith n c al))
-unfolding spansOfAll afters heldOf upTo
+unfolding linesOfAll spansOfAll afters heldOf upTo
 opened-inv n c al z e = record {
   past = [];
   gone = [];
@@ -97,6 +98,7 @@ opened-inv n c al z e = record {
   passes = e;
   whole = tt;
   lines = refl;
+  spans = refl;
   chain = tt;
   busy = refl;
   held = λ s h. getD-replicate 32 (s - 1) 0 0 (omega arith);
@@ -115,25 +117,26 @@ open-inv n c al e =
 
 -- ---- A world by its parts
 
-abbrev historyOf : Farm → List Span → List Accepted → List ℕ → List Job → ℕ → History
-historyOf f l j g p t = record { farm = f; lines = l; jobs = j; gone = g; latest = p; time = t }
+abbrev historyOf : Farm → List Chunk → List Span → List Accepted → List ℕ → List Job → ℕ → History
+historyOf f l s j g p t = record { farm = f; lines = l; spans = s; jobs = j; gone = g; latest = p; time = t }
 
 -- Worlds with the same parts are the same.
-same-world : {f g : Farm} {k l : List Span} {i j : List Accepted} {m n : List ℕ} {p q : List Job} {t u : ℕ} → f ≡ g → k ≡ l → i ≡ j → m ≡ n → p ≡ q → t ≡ u
-    → historyOf f k i m p t ≡ historyOf g l j n q u
-same-world a b c d e x = rw (a, b, c, d, e, x)
+same-world : {f g : Farm} {k l : List Chunk} {r s : List Span} {i j : List Accepted} {m n : List ℕ} {p q : List Job} {t u : ℕ} → f ≡ g → k ≡ l → r ≡ s → i ≡ j → m ≡ n → p ≡ q → t ≡ u
+    → historyOf f k r i m p t ≡ historyOf g l s j n q u
+same-world a b y c d e x = rw (a, b, y, c, d, e, x)
 
 -- ---- A refused call
 
 -- A refused call changes nothing.
 pub refused-note : (w : History) (c : Call) → Refused (w .farm) c → note w c ≡ w
 refused-note w c r =
-    same-world (r .hands) (ap (λ (l : List Span). w .lines ++ l) (r .lines) ∙ append-nil (w .lines)) (ap (λ (l : List Accepted). w .jobs ++ l) (r .jobs) ∙ append-nil (w .jobs))
+    same-world (r .hands) (ap (λ (l : List Chunk). w .lines ++ l) (r .lines) ∙ append-nil (w .lines))
+    (ap (λ (l : List Chunk). w .spans ++ map (withStart (w .farm)) l) (r .lines) ∙ append-nil (w .spans)) (ap (λ (l : List Accepted). w .jobs ++ l) (r .jobs) ∙ append-nil (w .jobs))
     (ap (λ (l : List ℕ). w .gone ++ l) (r .gone) ∙ append-nil (w .gone)) (r .latest (w .latest)) (r .time (w .time))
 
 -- So it is of a quote, given or refused.
 pub quote-note : (w : History) (o : Offer) → note w (quote o) ≡ w
-quote-note w o = same-world refl (append-nil (w .lines)) (append-nil (w .jobs)) (append-nil (w .gone)) refl refl
+quote-note w o = same-world refl (append-nil (w .lines)) (append-nil (w .spans)) (append-nil (w .jobs)) (append-nil (w .gone)) refl refl
 
 -- ---- An accepted offer
 
@@ -145,10 +148,10 @@ plan-accepted w b (j ∷ js) = ap (λ (l : List Accepted). acceptedOf j ∷ l) (
 
 module _ (w : History) (o : Offer) where
   abbrev offered : History
-  offered = historyOf (withPlan (w .farm) (planned (w .farm) o)) (w .lines) (w .jobs ++ taken (w .farm) o ∷ []) (w .gone) (planned (w .farm) o) (w .time)
+  offered = historyOf (withPlan (w .farm) (planned (w .farm) o)) (w .lines) (w .spans) (w .jobs ++ taken (w .farm) o ∷ []) (w .gone) (planned (w .farm) o) (w .time)
 
   takes-note : Takes (w .farm) o → note w (offer o) ≡ offered
-  takes-note k = same-world (k .hands) (append-nil (w .lines)) (ap (λ (l : List Accepted). w .jobs ++ l) (k .jobs)) (append-nil (w .gone)) (k .latest (w .latest)) refl
+  takes-note k = same-world (k .hands) (append-nil (w .lines)) (append-nil (w .spans)) (ap (λ (l : List Accepted). w .jobs ++ l) (k .jobs)) (append-nil (w .gone)) (k .latest (w .latest)) refl
 
   taken-jobs : (gone : List Accepted) (past : List Job) → List·Permᴰ (w .jobs) (gone ++ map acceptedOf (past ++ waitingOf (w .farm)))
       → List·Permᴰ (w .jobs ++ taken (w .farm) o ∷ []) (gone ++ map acceptedOf (past ++ planned (w .farm) o))
@@ -183,6 +186,7 @@ module _ (w : History) (o : Offer) where
         passes = passes-iff (withPlan f (planned f o)) size .1 (accepted-passes f o (i .sized) (k .granted) (k .books));
         whole = i .whole;
         lines = i .lines;
+        spans = i .spans;
         chain = i .chain;
         busy = i .busy;
         held = i .held;
@@ -197,10 +201,10 @@ module _ (w : History) (o : Offer) where
 
 module _ (w : History) (n : ℕ) where
   abbrev departed : History
-  departed = historyOf (withdrawnFarm (w .farm) n) (w .lines) (w .jobs) (w .gone ++ n ∷ []) (w .latest) (w .time)
+  departed = historyOf (withdrawnFarm (w .farm) n) (w .lines) (w .spans) (w .jobs) (w .gone ++ n ∷ []) (w .latest) (w .time)
 
   leaves-note : Leaves (w .farm) n → note w (withdraw n) ≡ departed
-  leaves-note k = same-world (k .hands) (append-nil (w .lines)) (append-nil (w .jobs)) (ap (λ (l : List ℕ). w .gone ++ l) (k .gone)) refl refl
+  leaves-note k = same-world (k .hands) (append-nil (w .lines)) (append-nil (w .spans)) (append-nil (w .jobs)) (ap (λ (l : List ℕ). w .gone ++ l) (k .gone)) refl refl
 
   module _ (i : Inv w) (k : Leaves (w .farm) n) where
     abbrev leaver : Job
@@ -234,6 +238,7 @@ module _ (w : History) (n : ℕ) where
           passes = passes-iff (withdrawnFarm f n) size .1 (withdrawn-passes f n (i .sized) (i .passes) (k .has));
           whole = i .whole;
           lines = i .lines;
+          spans = i .spans;
           chain = i .chain;
           busy = i .busy;
           held = i .held;
@@ -244,17 +249,26 @@ module _ (w : History) (n : ℕ) where
           clock = i .clock;
         }
 
--- ---- Limits of what was issued
+-- ---- What was issued
+
+-- The spans noted are those of the chunks noted.
+pub spans-issued : (w : History) → Inv w → map chunkOf (w .spans) ≡ w .lines
+spans-issued w i = ap (map chunkOf) (i .spans) ∙ spans-chunks (w .farm .costs) (i .past) ∙ sym (i .lines)
+
+-- The farm's free times are what the spans left.
+pub busy-spans : (w : History) → Inv w → busyOf (w .farm) ≡ afters idle (map chunkOf (w .spans))
+busy-spans w i = i .busy ∙ ap (afters idle) (sym (spans-issued w i))
 
 -- The spans of whole jobs are proper.
 pub whole-proper : (c : FarmCosts) (n : ℕ) (js : List Job) → All (Whole c n) js → All (Proper 64) (spansOfAll c js)
 whole-proper c n js h = spans-all (Proper 64) c js (all-map (λ j k. k .proper) js h)
 
 -- The chunks of whole jobs are sent and finish within the time range.
-whole-limits : (c : FarmCosts) (n : ℕ) (js : List Job) → All (Whole c n) js → All (λ (x : Chunk). (x .sent ≤ greatest) × (x .finish ≤ greatest)) (map chunkOf (spansOfAll c js))
+whole-limits : (c : FarmCosts) (n : ℕ) (js : List Job) → All (Whole c n) js → All (λ (x : Chunk). (x .sent ≤ greatest) × (x .finish ≤ greatest)) (linesOfAll c js)
 whole-limits c n js h =
-    all-image (λ (x : Chunk). (x .sent ≤ greatest) × (x .finish ≤ greatest)) chunkOf (spansOfAll c js)
-    (spans-all (λ (x : Span). (x .chunk .sent ≤ greatest) × (x .chunk .finish ≤ greatest)) c js (all-map one js h))
+    subst (All (λ (x : Chunk). (x .sent ≤ greatest) × (x .finish ≤ greatest))) (spans-chunks c js)
+    (all-image (λ (x : Chunk). (x .sent ≤ greatest) × (x .finish ≤ greatest)) chunkOf (spansOfAll c js)
+    (spans-all (λ (x : Span). (x .chunk .sent ≤ greatest) × (x .chunk .finish ≤ greatest)) c js (all-map one js h)))
   where
     one : (j : Job) → Whole c n j → All (λ (x : Span). (x .chunk .sent ≤ greatest) × (x .chunk .finish ≤ greatest)) (spansOf c j)
     one j k = all-both (λ x p q. (omega (arith, p .ends, k .ends, k .deadline), omega (arith, k .ends, k .deadline))) (spansOf c j) (k .proper) (job-finish c j)
@@ -265,20 +279,22 @@ all-by P (x ∷ xs) h = (h 0 (omega arith), all-by P xs (λ i l. h (suc i) (omeg
 
 -- The free times behind whole jobs are within the time range.
 free-limits : (c : FarmCosts) (n : ℕ) (js : List Job) → All (Whole c n) js
-    → (afters idle (map chunkOf (spansOfAll c js)) .link ≤ greatest) × All (λ (x : ℕ). x ≤ greatest) (afters idle (map chunkOf (spansOfAll c js)) .free)
+    → (afters idle (linesOfAll c js) .link ≤ greatest) × All (λ (x : ℕ). x ≤ greatest) (afters idle (linesOfAll c js) .free)
 free-limits c n js h =
-    afters-within greatest idle (map chunkOf (spansOfAll c js)) (omega arith) (all-replicate (λ (x : ℕ). x ≤ greatest) 64 0 (omega arith)) (whole-limits c n js h)
+    afters-within greatest idle (linesOfAll c js) (omega arith) (all-replicate (λ (x : ℕ). x ≤ greatest) 64 0 (omega arith)) (whole-limits c n js h)
 
 -- As spans on a node do not overlap, a show's held ticks are at most 64 times the time range.
-held-limit : (c : FarmCosts) (n s : ℕ) (js : List Job) → All (Whole c n) js → Chain idle (spansOfAll c js) → heldOf s (spansOfAll c js) ≤ 64_000_000_000_000
+held-limit : (c : FarmCosts) (n s : ℕ) (js : List Job) → All (Whole c n) js → Chain idle (spansOfAll c js) → heldOf s (linesOfAll c js) ≤ 64_000_000_000_000
 held-limit c n s js h k =
-    let free = afters idle (map chunkOf (spansOfAll c js)) .free in
+    let within : sum (map holds (linesOfAll c js)) + sum (idle .free) ≤ sum (afters idle (linesOfAll c js) .free) =
+    subst (λ (l : List Chunk). sum (map holds l) + sum (idle .free) ≤ sum (afters idle l .free)) (spans-chunks c js)
+    (held-free idle (spansOfAll c js) (length-replicate {A = ℕ} 64 0) (whole-proper c n js h) k) in
     omega (
       arith,
-      held-part s (spansOfAll c js),
-      held-free idle (spansOfAll c js) (length-replicate {A = ℕ} 64 0) (whole-proper c n js h) k,
-      sum-within greatest free (free-limits c n js h .1),
-      afters-length idle (map chunkOf (spansOfAll c js)),
+      held-part s (linesOfAll c js),
+      within,
+      sum-within greatest (afters idle (linesOfAll c js) .free) (free-limits c n js h .1),
+      afters-length idle (linesOfAll c js),
       length-replicate {A = ℕ} 64 0,
     )
 
@@ -286,10 +302,10 @@ held-limit c n s js h k =
 
 module _ (w : History) (t : ℕ) (m : List Chunk) where
   abbrev moved : History
-  moved = historyOf (movedFarm (w .farm) t) (w .lines ++ spansOfAll (w .farm .costs) (begun (w .farm) t)) (w .jobs) (w .gone) (w .latest) t
+  moved = historyOf (movedFarm (w .farm) t) (w .lines ++ issued (w .farm) t) (w .spans ++ spansOfAll (w .farm .costs) (begun (w .farm) t)) (w .jobs) (w .gone) (w .latest) t
 
   moves-note : Moves (w .farm) t m → note w (move t m) ≡ moved
-  moves-note k = same-world (k .hands) (ap (λ (l : List Span). w .lines ++ l) (k .lines)) (append-nil (w .jobs)) (append-nil (w .gone)) refl (k .time (w .time))
+  moves-note k = same-world (k .hands) (ap (λ (l : List Chunk). w .lines ++ l) (k .lines)) (ap (λ (l : List Span). w .spans ++ l) (k .spans)) (append-nil (w .jobs)) (append-nil (w .gone)) refl (k .time (w .time))
 
   module _ (i : Inv w) (k : Moves (w .farm) t m) where
     moved-whole : All (Whole (w .farm .costs) (w .farm .shows)) (i .past ++ begun (w .farm) t)
@@ -297,35 +313,33 @@ module _ (w : History) (t : ℕ) (m : List Chunk) where
         all-join (Whole (w .farm .costs) (w .farm .shows)) (i .past) (begun (w .farm) t) (i .whole)
         (all-map (λ j h. waiting-whole (w .farm) j (h .0)) (begun (w .farm) t) (begun-jobs (w .farm) (i .sized) (i .passes) t))
 
-    moved-lines : w .lines ++ spansOfAll (w .farm .costs) (begun (w .farm) t) ≡ spansOfAll (w .farm .costs) (i .past ++ begun (w .farm) t)
-    moved-lines = ap (λ (l : List Span). l ++ spansOfAll (w .farm .costs) (begun (w .farm) t)) (i .lines) ∙ sym (spans-append (w .farm .costs) (i .past) (begun (w .farm) t))
+    moved-lines : w .lines ++ issued (w .farm) t ≡ linesOfAll (w .farm .costs) (i .past ++ begun (w .farm) t)
+    moved-lines = ap (λ (l : List Chunk). l ++ issued (w .farm) t) (i .lines) ∙ sym (lines-joined (w .farm .costs) (i .past) (begun (w .farm) t))
 
-    all-chain : Chain idle (w .lines ++ spansOfAll (w .farm .costs) (begun (w .farm) t))
+    moved-spans : w .spans ++ spansOfAll (w .farm .costs) (begun (w .farm) t) ≡ spansOfAll (w .farm .costs) (i .past ++ begun (w .farm) t)
+    moved-spans = ap (λ (l : List Span). l ++ spansOfAll (w .farm .costs) (begun (w .farm) t)) (i .spans) ∙ sym (spans-append (w .farm .costs) (i .past) (begun (w .farm) t))
+
+    all-chain : Chain idle (w .spans ++ spansOfAll (w .farm .costs) (begun (w .farm) t))
     all-chain =
-        chain-append idle (w .lines) (spansOfAll (w .farm .costs) (begun (w .farm) t)) .1
-        (i .chain, subst (λ (b : Busy). Chain b (spansOfAll (w .farm .costs) (begun (w .farm) t))) (i .busy) (moved-chain (w .farm) (i .sized) (i .passes) t .0))
+        chain-append idle (w .spans) (spansOfAll (w .farm .costs) (begun (w .farm) t)) .1
+        (i .chain, subst (λ (b : Busy). Chain b (spansOfAll (w .farm .costs) (begun (w .farm) t))) (busy-spans w i) (moved-chain (w .farm) (i .sized) (i .passes) t .0))
 
-    moved-busy : busyOf (movedFarm (w .farm) t) ≡ afters idle (map chunkOf (w .lines ++ spansOfAll (w .farm .costs) (begun (w .farm) t)))
-    moved-busy =
-        let new = spansOfAll (w .farm .costs) (begun (w .farm) t) in
-        ap (λ (b : Busy). afters b (issued (w .farm) t)) (i .busy) ∙ sym (afters-append idle (map chunkOf (w .lines)) (issued (w .farm) t))
-        ∙ ap (λ (l : List Chunk). afters idle (map chunkOf (w .lines) ++ l)) (sym (spans-chunks (w .farm .costs) (begun (w .farm) t))) ∙ ap (afters idle) (sym (map-join chunkOf (w .lines) new))
+    moved-busy : busyOf (movedFarm (w .farm) t) ≡ afters idle (w .lines ++ issued (w .farm) t)
+    moved-busy = ap (λ (b : Busy). afters b (issued (w .farm) t)) (i .busy) ∙ sym (afters-append idle (w .lines) (issued (w .farm) t))
 
-    begun-shows : All (λ (x : Span). Between 1 (x .chunk .show) (length (w .farm .held))) (spansOfAll (w .farm .costs) (begun (w .farm) t))
+    begun-shows : All (λ (x : Chunk). Between 1 (x .show) (length (w .farm .held))) (issued (w .farm) t)
     begun-shows =
         let f = w .farm in
         let limit = passes-iff f (i .sized) .0 (i .passes) .within .shows .1 in
-        spans-all (λ (x : Span). Between 1 (x .chunk .show) (length (f .held))) (f .costs) (begun f t)
+        lines-all (λ (x : Chunk). Between 1 (x .show) (length (f .held))) (f .costs) (begun f t)
         (all-map (λ j h.
-        all-image (λ (x : Span). Between 1 (x .chunk .show) (length (f .held))) (λ (x : Chunk). record { from = j .booking .start; chunk = x }) (linesOf (f .costs) j)
-        (all-map (λ x e. (omega (arith, e .1, h .0 .within .show .0), omega (arith, e .1, h .0 .within .show .1, i .sized .held))) (linesOf (f .costs) j)
-        (chunks-named (ownCosts (f .costs) j) (j .number) (j .show) (j .booking .start) (chosen (j .booking)) (units (j .booking)))))
+        all-map (λ x e. (omega (arith, e .1, h .0 .within .show .0), omega (arith, e .1, h .0 .within .show .1, i .sized .held))) (linesOf (f .costs) j)
+        (chunks-named (ownCosts (f .costs) j) (j .number) (j .show) (j .booking .start) (chosen (j .booking)) (units (j .booking))))
         (begun f t) (begun-jobs f (i .sized) (i .passes) t))
 
-    moved-held : (s : ℕ) → Between 1 s 32 → heldBy (movedFarm (w .farm) t) s ≡ heldOf s (w .lines ++ spansOfAll (w .farm .costs) (begun (w .farm) t))
+    moved-held : (s : ℕ) → Between 1 s 32 → heldBy (movedFarm (w .farm) t) s ≡ heldOf s (w .lines ++ issued (w .farm) t)
     moved-held s h =
-        let new = spansOfAll (w .farm .costs) (begun (w .farm) t) in
-        omega (arith, raised-held s (w .farm .held) new (h .0) begun-shows, i .held s h, held-append s (w .lines) new)
+        omega (arith, raised-held s (w .farm .held) (issued (w .farm) t) (h .0) begun-shows, i .held s h, held-append s (w .lines) (issued (w .farm) t))
 
     held-within : All (λ (x : ℕ). x ≤ 64_000_000_000_000) (movedFarm (w .farm) t .held)
     held-within =
@@ -335,14 +349,14 @@ module _ (w : History) (t : ℕ) (m : List Chunk) where
         one : (n : ℕ) → n < 32 → getD (movedFarm (w .farm) t .held) n 0 ≤ 64_000_000_000_000
         one n l =
             let p : n ≡ suc n - 1 = omega arith in
-            let h : getD (movedFarm (w .farm) t .held) n 0 ≡ heldOf (suc n) (spansOfAll (w .farm .costs) (i .past ++ begun (w .farm) t)) =
+            let h : getD (movedFarm (w .farm) t .held) n 0 ≡ heldOf (suc n) (linesOfAll (w .farm .costs) (i .past ++ begun (w .farm) t)) =
             ap (λ (x : ℕ). getD (movedFarm (w .farm) t .held) x 0) p ∙ moved-held (suc n) (omega arith, omega arith) ∙ ap (heldOf (suc n)) moved-lines in
-            omega (arith, held-limit (w .farm .costs) (w .farm .shows) (suc n) (i .past ++ begun (w .farm) t) moved-whole (subst (Chain idle) moved-lines all-chain))
+            omega (arith, held-limit (w .farm .costs) (w .farm .shows) (suc n) (i .past ++ begun (w .farm) t) moved-whole (subst (Chain idle) moved-spans all-chain))
 
     -- the free times are within the time range
     busy-within : (movedFarm (w .farm) t .link ≤ greatest) × All (λ (x : ℕ). x ≤ greatest) (movedFarm (w .farm) t .free)
     busy-within =
-        subst (λ (b : Busy). (b .link ≤ greatest) × All (λ (x : ℕ). x ≤ greatest) (b .free)) (sym (moved-busy ∙ ap (λ (l : List Span). afters idle (map chunkOf l)) moved-lines))
+        subst (λ (b : Busy). (b .link ≤ greatest) × All (λ (x : ℕ). x ≤ greatest) (b .free)) (sym (moved-busy ∙ ap (afters idle) moved-lines))
         (free-limits (w .farm .costs) (w .farm .shows) (i .past ++ begun (w .farm) t) moved-whole)
 
     moved-jobs : List·Permᴰ (w .jobs) (i .gone ++ map acceptedOf ((i .past ++ begun (w .farm) t) ++ left (w .farm) t))
@@ -374,6 +388,7 @@ module _ (w : History) (t : ℕ) (m : List Chunk) where
               (all-take (λ (x : ℕ). x ≤ greatest) (f .nodes) (movedFarm f t .free) (busy-within .1)));
           whole = moved-whole;
           lines = moved-lines;
+          spans = moved-spans;
           chain = all-chain;
           busy = moved-busy;
           held = moved-held;

@@ -9,7 +9,7 @@ use native.Mathlib.Omega.{arith}
 use borrow.Author.Tests.{leb-true, leb-false, not-true, eq-eqb, ne-eqb}
 use lib.Dec.{eqb}
 use lib.ListN.{length}
-use Rattle.lists.specs.Laws.{All, Differ, all-map, at-member, all-image, image-all, all-append, all-join, pairs-across, mem-left, mem-right, map-join, perm-all, perm-mem, perm-pairs, pairs-parts}
+use Rattle.lists.specs.Laws.{All, Differ, all-map, all-of, at-member, all-image, image-all, all-append, all-join, pairs-across, mem-left, mem-right, map-join, perm-all, perm-mem, perm-pairs, pairs-parts}
 use Rattle.shares.specs.declared.Costs.{Costs}
 use Rattle.limits.specs.declared.FarmCosts.{FarmCosts}
 use Rattle.shares.specs.Model.{sum, sendEnd, chunkFinish}
@@ -19,20 +19,19 @@ use Rattle.walk.specs.declared.Job.{Job}
 use Rattle.walk.specs.declared.Chunk.{Chunk}
 use Rattle.planner.specs.declared.Farm.{Farm}
 use Rattle.answers.specs.declared.Offer.{Offer}
-use Rattle.planner.specs.Model.{ownCosts, Span, chunksFrom, linesOf, spansOf, spansOfAll, Sized, waitingOf, busyOf, termsOf}
+use Rattle.planner.specs.Model.{ownCosts, Span, chunksFrom, linesOf, spansOfAll, Sized, waitingOf, busyOf, termsOf}
 use Rattle.planner.specs.Passes.{passesOf}
-use Rattle.walk.specs.Model.{spansFrom}
 use Rattle.walk.specs.Chain.{chunks-finish}
 use Rattle.walk.specs.Order.{by-deadline-perm}
 use Rattle.walk.specs.Plan.{plan-numbers}
-use Rattle.soundness.specs.Sweep.{placed-from, spans-all}
+use Rattle.soundness.specs.Sweep.{spans-all}
 use Rattle.planner.specs.Calls.{hasNumber, ofNumber, without, newJob, queueOf, planned, withPlan, withdrawnFarm}
 use Rattle.demands.specs.OfferPasses.{waiting-planned}
-use Rattle.planner.specs.Clock.{startsBy, startsAfter, begun, left, movedFarm}
-use Rattle.demands.specs.CallLists.{Call, offer, quote, withdraw, move, handed, linesBy, Accepted, History, note, linesFor, unitsIn, acceptedOf, Fulfils, FromFirst, Waits, NoneOf, IssuesNone, Lifecycle, waits, passes, begins, withdrawn}
+use Rattle.planner.specs.Clock.{startsBy, startsAfter, linesOfAll, begun, left, issued, movedFarm}
+use Rattle.demands.specs.CallLists.{Call, offer, quote, withdraw, move, handed, linesBy, Accepted, History, note, linesFor, unitsIn, acceptedOf, Fulfils, Waits, NoneOf, IssuesNone, Lifecycle, waits, passes, begins, withdrawn}
 use Rattle.lists.specs.Keep.{keep-all}
-use Rattle.demands.specs.BegunJobs.{begun-left}
-use Rattle.queue.specs.Numbers.{numberOfJob, of-number-has}
+use Rattle.demands.specs.BegunJobs.{begun-left, lines-all}
+use Rattle.queue.specs.Numbers.{numberOfJob, of-number-is, of-number-has}
 use Rattle.demands.specs.WithdrawPasses.{leaves-others, withdrawn-waiting, others-differ}
 use Rattle.demands.specs.MovePasses.{Waiting, waiting-jobs, waiting-differ, begun-jobs, moved-waiting}
 use Rattle.demands.specs.Outcome.{Refused, Takes, Leaves, Moves, outcome, chunks-named}
@@ -53,57 +52,64 @@ from-image f (x ∷ xs) m = ⊎-elim (λ e. record { it = x; among = List·Mem�
 
 -- ---- The chunks of a job
 
--- A job's spans name it.
-pub spans-named : (c : FarmCosts) (j : Job) → All (λ (y : Span). y .chunk .job ≡ j .number) (spansOf c j)
-spans-named c j =
-    all-image (λ (y : Span). y .chunk .job ≡ j .number) (λ (x : Chunk). record { from = j .booking .start; chunk = x }) (linesOf c j)
-    (all-map (λ x h. h .0) (linesOf c j) (chunks-named (ownCosts c j) (j .number) (j .show) (j .booking .start) (chosen (j .booking)) (units (j .booking))))
+-- A job's chunks name it.
+pub lines-named : (c : FarmCosts) (j : Job) → All (λ (y : Chunk). y .job ≡ j .number) (linesOf c j)
+lines-named c j = all-map (λ x h. h .0) (linesOf c j) (chunks-named (ownCosts c j) (j .number) (j .show) (j .booking .start) (chosen (j .booking)) (units (j .booking)))
 
 -- Jobs of other numbers have no chunk of job n.
-pub none-of-jobs : (c : FarmCosts) (n : ℕ) (js : List Job) → All (λ (j : Job). j .number ≡ n → ⊥) js → NoneOf n (spansOfAll c js)
-none-of-jobs c n js h = spans-all (λ (y : Span). y .chunk .job ≡ n → ⊥) c js (all-map (λ j k. all-map (λ y e q. k (sym e ∙ q)) (spansOf c j) (spans-named c j)) js h)
+pub none-of-jobs : (c : FarmCosts) (n : ℕ) (js : List Job) → All (λ (j : Job). j .number ≡ n → ⊥) js → NoneOf n (linesOfAll c js)
+none-of-jobs c n js h = lines-all (λ (y : Chunk). y .job ≡ n → ⊥) c js (all-map (λ j k. all-map (λ y e q. k (sym e ∙ q)) (linesOf c j) (lines-named c j)) js h)
 
 -- Where no chunk is of job n, it has none.
-pub lines-none : (n : ℕ) (xs : List Span) → NoneOf n xs → linesFor n xs ≡ []
+pub lines-none : (n : ℕ) (xs : List Chunk) → NoneOf n xs → linesFor n xs ≡ []
 unfolding linesFor
 lines-none n [] h = refl
-lines-none n (x ∷ xs) h = rw (ne-eqb (x .chunk .job) n (h .0)) (lines-none n xs (h .1))
+lines-none n (x ∷ xs) h = rw (ne-eqb (x .job) n (h .0)) (lines-none n xs (h .1))
 
-lines-every : (n : ℕ) (xs : List Span) → All (λ (y : Span). y .chunk .job ≡ n) xs → linesFor n xs ≡ xs
+lines-every : (n : ℕ) (xs : List Chunk) → All (λ (y : Chunk). y .job ≡ n) xs → linesFor n xs ≡ xs
 unfolding linesFor
 lines-every n [] h = refl
-lines-every n (x ∷ xs) h = rw (eq-eqb (x .chunk .job) n (h .0)) (ap (λ (l : List Span). x ∷ l) (lines-every n xs (h .1)))
+lines-every n (x ∷ xs) h = rw (eq-eqb (x .job) n (h .0)) (ap (λ (l : List Chunk). x ∷ l) (lines-every n xs (h .1)))
 
 -- A job's chunks in two lists are those in the one, then those in the other.
-pub lines-append : (n : ℕ) (xs ys : List Span) → linesFor n (xs ++ ys) ≡ linesFor n xs ++ linesFor n ys
+pub lines-append : (n : ℕ) (xs ys : List Chunk) → linesFor n (xs ++ ys) ≡ linesFor n xs ++ linesFor n ys
 unfolding linesFor
 lines-append n [] ys = refl
-lines-append n (x ∷ xs) ys = go (eqb (x .chunk .job) n) (lines-append n xs ys)
+lines-append n (x ∷ xs) ys = go (eqb (x .job) n) (lines-append n xs ys)
   where
     go : (b : Bool) → linesFor n (xs ++ ys) ≡ linesFor n xs ++ linesFor n ys
         → cond b (x ∷ linesFor n (xs ++ ys)) (linesFor n (xs ++ ys)) ≡ cond b (x ∷ linesFor n xs) (linesFor n xs) ++ linesFor n ys
-    go true e = ap (λ (l : List Span). x ∷ l) e
+    go true e = ap (λ (l : List Chunk). x ∷ l) e
     go false e = e
 
 -- Of jobs with different numbers, the chunks of one are its own, each once.
-pub lines-own : (c : FarmCosts) (js : List Job) (j : Job) → Differ (map numberOfJob js) → List·Memᴰ j js → linesFor (j .number) (spansOfAll c js) ≡ spansOf c j
-unfolding spansOfAll
+pub lines-own : (c : FarmCosts) (js : List Job) (j : Job) → Differ (map numberOfJob js) → List·Memᴰ j js → linesFor (j .number) (linesOfAll c js) ≡ linesOf c j
+unfolding linesOfAll
 lines-own c [] j d m = absurd (List·Memᴰ·not-nil m)
-lines-own c (i ∷ js) j d m = lines-append (j .number) (spansOf c i) (spansOfAll c js) ∙ ⊎-elim here (λ n. there n (lines-own c js j (d .1) n)) (List·Memᴰ·cases-cons m)
+lines-own c (i ∷ js) j d m = lines-append (j .number) (linesOf c i) (linesOfAll c js) ∙ ⊎-elim here (λ n. there n (lines-own c js j (d .1) n)) (List·Memᴰ·cases-cons m)
   where
     others : All (λ (x : Job). i .number ≡ x .number → ⊥) js
     others = image-all (λ (y : ℕ). i .number ≡ y → ⊥) numberOfJob js (d .0)
 
-    here : j ≡ i → linesFor (j .number) (spansOf c i) ++ linesFor (j .number) (spansOfAll c js) ≡ spansOf c j
+    here : j ≡ i → linesFor (j .number) (linesOf c i) ++ linesFor (j .number) (linesOfAll c js) ≡ linesOf c j
     here e =
-        subst (λ (x : Job). linesFor (x .number) (spansOf c i) ++ linesFor (x .number) (spansOfAll c js) ≡ spansOf c x) (sym e)
-        (ap₂ _++_ (lines-every (i .number) (spansOf c i) (spans-named c i)) (lines-none (i .number) (spansOfAll c js) (none-of-jobs c (i .number) js (all-map (λ x k q. k (sym q)) js others)))
-        ∙ append-nil (spansOf c i))
+        subst (λ (x : Job). linesFor (x .number) (linesOf c i) ++ linesFor (x .number) (linesOfAll c js) ≡ linesOf c x) (sym e)
+        (ap₂ _++_ (lines-every (i .number) (linesOf c i) (lines-named c i)) (lines-none (i .number) (linesOfAll c js) (none-of-jobs c (i .number) js (all-map (λ x k q. k (sym q)) js others)))
+        ∙ append-nil (linesOf c i))
 
-    there : List·Memᴰ j js → linesFor (j .number) (spansOfAll c js) ≡ spansOf c j → linesFor (j .number) (spansOf c i) ++ linesFor (j .number) (spansOfAll c js) ≡ spansOf c j
+    there : List·Memᴰ j js → linesFor (j .number) (linesOfAll c js) ≡ linesOf c j → linesFor (j .number) (linesOf c i) ++ linesFor (j .number) (linesOfAll c js) ≡ linesOf c j
     there n r =
         let k : i .number ≡ j .number → ⊥ = at-member (λ (x : Job). i .number ≡ x .number → ⊥) n others in
-        ap₂ _++_ (lines-none (j .number) (spansOf c i) (all-map (λ y e q. k (sym e ∙ q)) (spansOf c i) (spans-named c i))) r
+        ap₂ _++_ (lines-none (j .number) (linesOf c i) (all-map (λ y e q. k (sym e ∙ q)) (linesOf c i) (lines-named c i))) r
+
+-- Of jobs with different numbers, the spans of one begin at its start.
+pub spans-start : (c : FarmCosts) (js : List Job) (j : Job) → Differ (map numberOfJob js) → List·Memᴰ j js
+    → All (λ (y : Span). y .chunk .job ≡ j .number → y .from ≡ j .booking .start) (spansOfAll c js)
+spans-start c js j d m =
+    let P : Span → Type 0 = λ (y : Span). y .chunk .job ≡ j .number → y .from ≡ j .booking .start in
+    spans-all P c js (all-of js (λ i n.
+    all-image P (λ (x : Chunk). record { from = i .booking .start; chunk = x }) (linesOf c i)
+    (all-map (λ x e q. ap (λ (k : Job). k .booking .start) (sym (of-number-is js i d n) ∙ ap (λ (a : ℕ). ofNumber a js) (sym e ∙ q) ∙ of-number-is js j d m)) (linesOf c i) (lines-named c i))))
 
 chunks-units : (c : Costs) (j s t : ℕ) (ks xs : List ℕ) → length ks ≡ length xs → Positive xs
     → All (λ (y : Chunk). 1 ≤ y .units) (chunksFrom c j s t ks xs) × (unitsIn (chunksFrom c j s t ks xs) ≡ sum xs)
@@ -138,17 +144,6 @@ whole-fulfils c n j h =
       finish = all-map (λ x k. k .1) (linesOf c j) times;
       ends = all-map (λ x k. omega (arith, h .ends)) (linesOf c j) (chunks-finish own (j .number) (j .show) s (chosen (j .booking)) (units (j .booking)));
     }
-
-chunks-first : (c : Costs) (j s t : ℕ) (ks xs : List ℕ) → FromFirst (spansFrom c j s t t ks xs)
-unfolding chunksFrom
-chunks-first c j s t [] [] = tt
-chunks-first c j s t [] (a ∷ xs) = tt
-chunks-first c j s t (k ∷ ks) [] = tt
-chunks-first c j s t (k ∷ ks) (a ∷ xs) = (refl, placed-from t (chunksFrom c j s (sendEnd c t a) ks xs))
-
--- A job's start is the send start of its first chunk.
-pub spans-first : (c : FarmCosts) (j : Job) → FromFirst (spansOf c j)
-spans-first c j = chunks-first (ownCosts c j) (j .number) (j .show) (j .booking .start) (chosen (j .booking)) (units (j .booking))
 
 -- ---- A job that waits
 
@@ -286,7 +281,7 @@ lifecycle-begins x w t ms cs i k m =
     let by = at-member (λ (b : Job). Waiting f b × (startsBy t b ≡ true)) (r .among) (begun-jobs f (i .sized) (i .passes) t) .1 in
     let own = lines-own (f .costs) (begun f t) j (front-differ (begun f t) (left f t) (begun-differ f t (i .sized) (i .passes))) (r .among) in
     begins {c = move t ms} (waits-as f j x (i .sized) (i .passes) in′ (r .image)) (k .says, leb-true (j .booking .start) t by)
-    (ap (linesFor (x .number)) (k .lines) ∙ ap (λ (a : ℕ). linesFor a (spansOfAll (f .costs) (begun f t))) (sym n) ∙ own)
+    (ap (linesFor (x .number)) (k .lines) ∙ ap (λ (a : ℕ). linesFor a (issued f t)) (sym n) ∙ own)
     (issues-no-more (x .number) (note w (move t ms)) cs (note-inv w (move t ms) i)
     (subst (λ (a : ℕ). NoLongerWaits a (handed f (move t ms))) n (subst (NoLongerWaits (j .number)) (sym (k .hands)) (begun-no-longer-waits f t j (i .sized) (i .passes) (r .among)))))
 
@@ -300,7 +295,7 @@ lifecycle-passes x w t ms cs i k m rest =
     let n : j .number ≡ x .number = ap (λ (y : Accepted). y .number) (r .image) in
     let in′ : List·Memᴰ j (waitingOf f) = perm-mem (Permᴰ·symm (begun-left f t)) (mem-right (begun f t) (r .among)) in
     let late = at-member (λ (b : Job). Waiting f b × (startsAfter t b ≡ true)) (r .among) (keep-all (startsAfter t) (Waiting f) (waitingOf f) (waiting-jobs f (i .sized) (i .passes))) .1 in
-    let none : NoneOf (j .number) (spansOfAll (f .costs) (begun f t)) =
+    let none : NoneOf (j .number) (issued f t) =
     none-of-jobs (f .costs) (j .number) (begun f t) (none-before (begun f t) (left f t) (begun-differ f t (i .sized) (i .passes)) j (r .among)) in
     passes {c = move t ms} (waits-as f j x (i .sized) (i .passes) in′ (r .image)) (λ q. omega (arith, q .1, leb-false (j .booking .start) t (not-true (startsBy t j) late))) (λ q. q)
     (subst (λ (a : ℕ). NoneOf a (linesBy f (move t ms))) n (subst (NoneOf (j .number)) (sym (k .lines)) none))

@@ -97,7 +97,7 @@ module _ (f : Farm) (sized : Sized f) (e : passesOf f ≡ true) where
         let rest : All JobSized (drop n (f .jobs)) = all-append JobSized (take n (f .jobs)) (drop n (f .jobs)) (rw take-append-drop (sized .each)) .1 in
         record {
           allowances = sized .allowances;
-          held = raised-length (f .held) (spansOfAll (f .costs) (begun f t)) ∙ sized .held;
+          held = raised-length (f .held) (issued f t) ∙ sized .held;
           free = afters-length (busyOf f) (issued f t) ∙ sized .free;
           jobs = omega (arith, left-few, length-append (left f t) (drop n (f .jobs)), length-drop n (f .jobs), sized .jobs);
           each = all-join JobSized (left f t) (drop n (f .jobs)) (perm-all JobSized (later-left f t) (all-map (λ j h. h .0 .sized) (later f t) later-jobs)) rest;

@@ -24,7 +24,7 @@ use Rattle.walk.specs.Plan.{plan-numbers}
 use Rattle.planner.specs.Calls.{granted, hasNumber, ofNumber, computeOf, newJob, queueOf, planned, accepts, withPlan, offerAsked, offerSaid, offerFarm, OfferGranted, withdrawnFarm, withdrawSaid, withdrawFarm}
 use Rattle.planner.specs.OfferSteps.{offer-granted}
 use Rattle.planner.specs.Clock.{startsBy, begun, linesOfAll, issued, movedFarm, moveAsked, moveSaid, moveFarm, moveMemory}
-use Rattle.demands.specs.CallLists.{Call, offer, quote, withdraw, move, handed, isGranted, withStart, linesBy, Accepted, jobsBy, goneBy, planBy, timeBy}
+use Rattle.demands.specs.CallLists.{Call, offer, quote, withdraw, move, handed, isGranted, withStart, linesBy, spansBy, Accepted, jobsBy, goneBy, planBy, timeBy}
 use Rattle.lists.specs.Keep.{keep-all}
 use Rattle.queue.specs.Numbers.{numberOfJob, of-number-is, has-number, of-number-has}
 use Rattle.planner.specs.ClockSteps.{MoveGranted, move-granted}
@@ -66,7 +66,8 @@ pub record Moves (f : Farm) (t : ℕ) (m : List Chunk) : Type 0 where
   pub granted : MoveGranted f t (length m)
   pub says : isGranted f (move t m) ≡ true
   pub hands : handed f (move t m) ≡ movedFarm f t
-  pub lines : linesBy f (move t m) ≡ spansOfAll (f .costs) (begun f t)
+  pub lines : linesBy f (move t m) ≡ issued f t
+  pub spans : spansBy f (move t m) ≡ spansOfAll (f .costs) (begun f t)
   pub time : (u : ℕ) → timeBy f u (move t m) ≡ t
 
 -- what a call may do
@@ -114,9 +115,15 @@ begun-found f t z e =
 move-moves : (f : Farm) (t : ℕ) (m : List Chunk) → Sized f → MoveGranted f t (length m) → eqb (moveAsked f t (length m)) 0 ≡ true → Moves f t m
 unfolding moveSaid moveFarm moveMemory
 move-moves f t m z g e =
-    let lines : map (withStart f) (take (length (issued f t)) (issued f t ++ drop (length (issued f t)) m)) ≡ spansOfAll (f .costs) (begun f t) =
-    ap (map (withStart f)) (take-at (issued f t) (drop (length (issued f t)) m) (length (issued f t)) refl) ∙ started-lines f (f .costs) (begun f t) (begun-found f t z (g .passes)) in
-    record { granted = g; says = rw e; hands = rw e; lines = rw e lines; time = λ u. rw e }
+    let lines : linesBy f (move t m) ≡ issued f t = rw e (take-at (issued f t) (drop (length (issued f t)) m) (length (issued f t)) refl) in
+    record {
+      granted = g;
+      says = rw e;
+      hands = rw e;
+      lines = lines;
+      spans = ap (map (withStart f)) lines ∙ started-lines f (f .costs) (begun f t) (begun-found f t z (g .passes));
+      time = λ u. rw e;
+    }
 
 move-stays : (f : Farm) (t : ℕ) (m : List Chunk) → eqb (moveAsked f t (length m)) 0 ≡ false → Refused f (move t m)
 unfolding moveSaid moveFarm moveMemory

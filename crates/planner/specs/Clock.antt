@@ -11,7 +11,7 @@ use lib.ListN.{length, drop}
 use Rattle.walk.specs.declared.Job.{Job}
 use Rattle.walk.specs.declared.Chunk.{Chunk}
 use Rattle.planner.specs.declared.Farm.{Farm}
-use Rattle.planner.specs.Model.{greatest, between, spansOfAll, afters, byStart, waitingOf, busyOf}
+use Rattle.planner.specs.Model.{greatest, between, afters, byStart, waitingOf, busyOf}
 use Rattle.planner.specs.Passes.{passesOf}
 use Rattle.planner.specs.Calls.{Clock, Shown, Said, granted, refused}
 
@@ -39,7 +39,7 @@ movedFarm f t = record {
   costs = f .costs;
   shows = f .shows;
   allowances = f .allowances;
-  held = raised (f .held) (spansOfAll (f .costs) (begun f t));
+  held = raised (f .held) (issued f t);
   clock = t;
   link = afters (busyOf f) (issued f t) .link;
   free = afters (busyOf f) (issued f t) .free;

@@ -31,7 +31,7 @@ use Rattle.answers.specs.declared.Question.the-variants as question
 use Rattle.answers.specs.declared.Answer.the-variants as answer
 use Rattle.planner.specs.declared.Move.{Move}
 use Rattle.planner.specs.declared.clock.Issue.{Issue}
-use Rattle.planner.specs.Model.{greatest, between, Between, noJob, spansOfAll, afters, inOrder, byStart, waitingOf, busyOf, JobSized, Sized}
+use Rattle.planner.specs.Model.{greatest, between, Between, noJob, afters, inOrder, byStart, waitingOf, busyOf, JobSized, Sized}
 use Rattle.planner.specs.Passes.{passesOf, figuresOf, JobWithin}
 use Rattle.planner.specs.PassesSteps.{passes-within, passes-jobs}
 use Rattle.planner.specs.Calls.{Clock, Shown, said, numberOf, granted, Replies}
@@ -197,13 +197,13 @@ module _ (f : Farm) (t : ℕ) (d : Due) (sized : Sized f) (x : Begins f t d) whe
 -- The farm with what its parts come to is the moved farm.
 pub moved-is : (f : Farm) (t : ℕ) (ls : List Job) (b : Busy) (hs : List ℕ) (k : ℕ) (js : List Job) → ls ≡ begun f t
     → b ≡ afters (busyOf f) (linesOfAll (f .costs) ls)
-    → hs ≡ raised (f .held) (spansOfAll (f .costs) ls)
+    → hs ≡ raised (f .held) (linesOfAll (f .costs) ls)
     → k ≡ length (left f t)
     → js ≡ left f t ++ drop k (f .jobs)
     → record { opened = f .opened; nodes = f .nodes; costs = f .costs; shows = f .shows; allowances = f .allowances; held = hs; clock = t; link = b .link; free = b .free; used = f .used; waiting = k; jobs = js } ≡ movedFarm f t
 moved-is f t ls b hs k js q e₁ e₂ e₃ e₄ =
     let b′ : b ≡ afters (busyOf f) (issued f t) = e₁ ∙ ap (λ (l : List Job). afters (busyOf f) (linesOfAll (f .costs) l)) q in
-    let h′ : hs ≡ raised (f .held) (spansOfAll (f .costs) (begun f t)) = e₂ ∙ ap (λ (l : List Job). raised (f .held) (spansOfAll (f .costs) l)) q in
+    let h′ : hs ≡ raised (f .held) (issued f t) = e₂ ∙ ap (λ (l : List Job). raised (f .held) (linesOfAll (f .costs) l)) q in
     let j′ : js ≡ left f t ++ drop (length (left f t)) (f .jobs) = e₄ ∙ ap (λ (i : ℕ). left f t ++ drop i (f .jobs)) e₃ in
     rw (b′, h′, j′, e₃)
 
@@ -334,7 +334,7 @@ module _ (f : Farm) (t : ℕ) (few : f .waiting ≤ length (f .jobs)) (late : Al
 
   -- Only its clock changes.
   pub unbegun-farm : clockAt f t ≡ movedFarm f t
-  unfolding raised afters spansOfAll linesOfAll
+  unfolding raised afters linesOfAll
   unbegun-farm =
       let count : length (left f t) ≡ f .waiting = ap length all-left ∙ length-take-le (f .waiting) (f .jobs) few in
       let jobs : left f t ++ drop (length (left f t)) (f .jobs) ≡ f .jobs = rw (count, all-left) (take-append-drop (f .waiting) (f .jobs)) in

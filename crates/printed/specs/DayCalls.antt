@@ -25,8 +25,7 @@ use Rattle.reading.specs.declared.Kind.the-variants as kind
 use Rattle.reading.specs.Model.{lineKind, readable, numbersOf}
 use Rattle.lines.specs.Model.{refusal, answerText, chunkText, chunkTexts, Answered, unread, costsIn, allowancesOf, farmLine, computeIn, offerIn, jobLine, lent, clockLine, accountLine, withdrawLine, quoteLine, inTurn, called, recorded, longest, answered}
 use Rattle.demands.specs.Kept.{run-keeps}
-use Rattle.demands.specs.CallLists.{Call, offer, quote, withdraw, move, withStart, linesBy, Accepted, jobsBy, goneBy, History, opening, note, run}
-use Rattle.demands.specs.BegunJobs.{chunkOf}
+use Rattle.demands.specs.CallLists.{Call, offer, quote, withdraw, move, linesBy, Accepted, jobsBy, goneBy, History, opening, note, run}
 use Rattle.demands.specs.Invariant.{quote-note, run-append}
 use Rattle.printed.specs.Model.{answers}
 
@@ -421,41 +420,33 @@ unfolding collect
 chunks-printed [] s = refl
 chunks-printed (x ∷ xs) s = ap (λ (l : List Chunk). x ∷ l) (chunks-printed xs s)
 
-map-started : (f : Farm) (xs : List Chunk) → map chunkOf (map (withStart f) xs) ≡ xs
-map-started f [] = refl
-map-started f (x ∷ xs) = ap (λ (l : List Chunk). x ∷ l) (map-started f xs)
-
 -- The chunks that a move issues are the lines that it writes.
-pub move-chunks : (f : Farm) (t : ℕ) (m : List Chunk) → map chunkOf (linesBy f (move t m)) ≡ moveLines f t (length m)
+pub move-chunks : (f : Farm) (t : ℕ) (m : List Chunk) → linesBy f (move t m) ≡ moveLines f t (length m)
 unfolding moveSaid moveMemory
 move-chunks f t m = go (eqb (moveAsked f t (length m)) 0) refl
   where
-    go : (a : Bool) → eqb (moveAsked f t (length m)) 0 ≡ a → map chunkOf (linesBy f (move t m)) ≡ moveLines f t (length m)
-    go true e = rw e (map-started f _ ∙ take-at (issued f t) (drop (length (issued f t)) m) (length (issued f t)) refl)
+    go : (a : Bool) → eqb (moveAsked f t (length m)) 0 ≡ a → linesBy f (move t m) ≡ moveLines f t (length m)
+    go true e = rw e (take-at (issued f t) (drop (length (issued f t)) m) (length (issued f t)) refl)
     go false e = rw (e, e)
 
 -- The `chunk` lines printed are the chunks that the calls issue.
-pub chunks-reading : Reading (λ f ns. chunkIn) (λ (w : History). map chunkOf (w .lines))
+pub chunks-reading : Reading (λ f ns. chunkIn) (λ (w : History). w .lines)
 unfolding calledPrints collect run
 chunks-reading = record { unread = λ f ns. refl; opens = λ f ns n c al. refl; starts = λ f. refl; calls = calls }
   where
-    none : (w : History) → map chunkOf (w .lines) ++ [] ≡ map chunkOf (w .lines ++ [])
-    none w = append-nil (map chunkOf (w .lines)) ∙ ap (map chunkOf) (sym (append-nil (w .lines)))
-
-    calls : (w : History) (k : Kind) (ns al : List ℕ) → map chunkOf (w .lines) ++ chunksIn (calledPrints (w .farm) k ns al) ≡ map chunkOf (run w (callOf k ns) .lines)
-    calls w kind.Farm ns al = append-nil (map chunkOf (w .lines))
-    calls w kind.Job ns al = none w
+    calls : (w : History) (k : Kind) (ns al : List ℕ) → w .lines ++ chunksIn (calledPrints (w .farm) k ns al) ≡ run w (callOf k ns) .lines
+    calls w kind.Farm ns al = append-nil (w .lines)
+    calls w kind.Job ns al = refl
     calls w kind.Clock ns al =
         let f = w .farm in
         let t = getD ns 0 0 in
         let m : List Chunk = replicate lent noChunk in
-        ap (λ (l : List Chunk). map chunkOf (w .lines) ++ l)
+        ap (λ (l : List Chunk). w .lines ++ l)
         (chunks-printed (moveLines f t lent) (moveSaid f t lent) ∙ ap (moveLines f t) (sym (length-replicate {A = Chunk} lent noChunk)) ∙ sym (move-chunks f t m))
-        ∙ sym (map-join chunkOf (w .lines) (linesBy f (move t m)))
-    calls w kind.Account ns al = append-nil (map chunkOf (w .lines))
-    calls w kind.Withdraw ns al = none w
-    calls w kind.Quote ns al = none w
-    calls w kind.Unreadable ns al = append-nil (map chunkOf (w .lines))
+    calls w kind.Account ns al = append-nil (w .lines)
+    calls w kind.Withdraw ns al = refl
+    calls w kind.Quote ns al = refl
+    calls w kind.Unreadable ns al = append-nil (w .lines)
 
 -- ---- Accepted and withdrawn jobs
 

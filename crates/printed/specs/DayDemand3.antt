@@ -17,18 +17,16 @@ use Rattle.limits.specs.declared.FarmCosts.{FarmCosts}
 use Rattle.limits.specs.Says.{between-is}
 use Rattle.walk.specs.declared.Chunk.{Chunk}
 use Rattle.planner.specs.declared.Farm.{Farm}
-use Rattle.planner.specs.Model.{between, Between, costsWithin, Span}
+use Rattle.planner.specs.Model.{between, Between, costsWithin}
 use Rattle.planner.specs.Calls.{Said, Open, Account, granted, refused, showsWithin, openSaid, openFarm, openedWith, unopened, accountSaid, heldBy, allowanceOf, offerSaid, asQuote, quoteSaid}
-use Rattle.planner.specs.Clock.{holds}
 use Rattle.reading.specs.declared.Kind.{Kind}
 use Rattle.reading.specs.declared.Kind.the-variants as kind
 use Rattle.reading.specs.Model.{lineKind, readable, numbersOf}
 use Rattle.lines.specs.Model.{Answered, unread, costsIn, allowancesOf, farmLine, offerIn, accountLine, inTurn, called, recorded, longest, answered}
-use Rattle.demands.specs.CallLists.{Call, Accepted, History, opening, run, heldOf, linesFor, FromFirst}
-use Rattle.demands.specs.BegunJobs.{chunkOf}
+use Rattle.demands.specs.CallLists.{Call, Accepted, History, opening, run, heldOf}
 use Rattle.demands.specs.Demand1.{open-keeps}
 use Rattle.demands.specs.Kept.{run-keeps}
-use Rattle.demands.specs.Demand3.{Issued, Booked, Withdrawn, Demand3, demand3}
+use Rattle.demands.specs.Demand3.{Demand3, demand3}
 use Rattle.printed.specs.Model.{linesIn, answers, dayText, answersOf, texts, otherKind, withoutQuotes, otherAnswers}
 use Rattle.printed.specs.QuoteLines.{answers-texts, quote-farm, answers-without}
 use Rattle.printed.specs.DayCalls.{callsIn, farmAfter, Print, answer, printTexts, calledPrints, unreadPrints, recordedPrints, linePrints, prints, collect, chunkIn, chunksIn, told, goneAs, goneIn, acceptedOn, acceptedIn, readIn, Reading, farm-after, answers-text, collect-prints, read-lines, read-unopened, chunks-reading, accepted-reading, gone-reading}
@@ -57,24 +55,11 @@ pub record Opens (l : List ℕ) : Type 0 where
 abbrev pub Stays : List ℕ → Type 0
 Stays l = answered unopened l .farm ≡ unopened
 
--- ---- Held ticks as they can be read from the printed lines
-
--- the start of a job: the send start of its first chunk
-unfoldable pub startOf : ℕ → List Chunk → ℕ
-startOf n [] = 0
-startOf n (x ∷ xs) = cond (eqb (x .job) n) (x .start) (startOf n xs)
-
--- the finish minus the job's start, over those of xs that are of show s; the jobs' starts are those among all
-unfoldable pub heldAmong : ℕ → List Chunk → List Chunk → ℕ
-heldAmong s all [] = 0
-heldAmong s all (x ∷ xs) = cond (eqb (x .show) s) ((x .finish - startOf (x .job) all) + heldAmong s all xs) (heldAmong s all xs)
-
-abbrev pub heldIn : ℕ → List Chunk → ℕ
-heldIn s xs = heldAmong s xs xs
+-- ---- An account
 
 -- what an `account` line of show s is answered on a farm with these allowances after these `chunk` lines
 abbrev pub accountOf : List ℕ → ℕ → List Chunk → Said
-accountOf al s xs = cond (between 1 s (length al)) (granted Account (s ∷ heldIn s xs ∷ (heldIn s xs - getD al (s - 1) 0) ∷ [])) (refused 4)
+accountOf al s xs = cond (between 1 s (length al)) (granted Account (s ∷ heldOf s xs ∷ (heldOf s xs - getD al (s - 1) 0) ∷ [])) (refused 4)
 
 -- ---- A quote and its offer
 
@@ -96,7 +81,7 @@ pub record DayDemand3 (before : List (List ℕ)) (l : List ℕ) (after : List (L
   -- the finish of every chunk.
   pub costs : (part rest : List (List ℕ)) → after ≡ part ++ rest → farmAfter unopened (before ++ l ∷ part) .costs ≡ costsIn (numbersOf l)
   -- The `chunk` lines printed are the chunks that the calls issue, in order.
-  pub chunks : chunksIn (prints unopened (before ++ l ∷ after)) ≡ map chunkOf (run (opening (farmOn l)) (callsIn after) .lines)
+  pub chunks : chunksIn (prints unopened (before ++ l ∷ after)) ≡ run (opening (farmOn l)) (callsIn after) .lines
   -- The jobs that are told `yes` are the jobs that the calls accept, in order.
   pub accepted : acceptedIn unopened (before ++ l ∷ after) ≡ run (opening (farmOn l)) (callsIn after) .jobs
   -- The jobs that are told `gone` are the jobs that the calls withdraw, in order.
@@ -117,70 +102,6 @@ pub record DayDemand3 (before : List (List ℕ)) (l : List ℕ) (after : List (L
 pub data Day (ls : List (List ℕ)) : Type 0 where
   never : All Stays ls → chunksIn (prints unopened ls) ≡ [] → acceptedIn unopened ls ≡ [] → goneIn (prints unopened ls) ≡ [] → Day ls
   opens : (before : List (List ℕ)) (l : List ℕ) (after : List (List ℕ)) → ls ≡ before ++ l ∷ after → All Stays before → Opens l → DayDemand3 before l after → Day ls
-
--- ---- Held ticks
-
-abbrev firstStart : List Span → ℕ
-firstStart [] = 0
-firstStart (y ∷ ys) = y .chunk .start
-
-start-first : (n : ℕ) (xs : List Span) → startOf n (map chunkOf xs) ≡ firstStart (linesFor n xs)
-unfolding startOf linesFor
-start-first n [] = refl
-start-first n (x ∷ xs) = go (eqb (x .chunk .job) n) (start-first n xs)
-  where
-    go : (b : Bool) → startOf n (map chunkOf xs) ≡ firstStart (linesFor n xs)
-        → cond b (x .chunk .start) (startOf n (map chunkOf xs)) ≡ firstStart (cond b (x ∷ linesFor n xs) (linesFor n xs))
-    go true h = refl
-    go false h = h
-
-from-first : (ys : List Span) → FromFirst ys → All (λ (y : Span). y .from ≡ firstStart ys) ys
-from-first [] h = tt
-from-first (y ∷ ys) h = h
-
-lines-for-all : (P : Span → Type 0) (n : ℕ) (xs : List Span) → All P (linesFor n xs) → All (λ (y : Span). y .chunk .job ≡ n → P y) xs
-unfolding linesFor
-lines-for-all P n [] h = tt
-lines-for-all P n (x ∷ xs) h = go (eqb (x .chunk .job) n) refl h (lines-for-all P n xs)
-  where
-    go : (b : Bool) → eqb (x .chunk .job) n ≡ b → All P (cond b (x ∷ linesFor n xs) (linesFor n xs))
-        → (All P (linesFor n xs) → All (λ (y : Span). y .chunk .job ≡ n → P y) xs) → All (λ (y : Span). y .chunk .job ≡ n → P y) (x ∷ xs)
-    go true e k r = (λ q. k .0, r (k .1))
-    go false e k r = (λ q. absurd (eqb-false (x .chunk .job) n e q), r k)
-
--- the start noted with each issued chunk of job n is the job's start
-abbrev Started : History → ℕ → Type 0
-Started w n = All (λ (y : Span). y .chunk .job ≡ n → y .from ≡ startOf n (map chunkOf (w .lines))) (w .lines)
-
-started-from : (w : History) (n : ℕ) → FromFirst (linesFor n (w .lines)) → Started w n
-started-from w n h =
-    subst (λ (u : ℕ). All (λ (y : Span). y .chunk .job ≡ n → y .from ≡ u) (w .lines)) (sym (start-first n (w .lines)))
-    (lines-for-all (λ (y : Span). y .from ≡ firstStart (linesFor n (w .lines))) n (w .lines) (from-first (linesFor n (w .lines)) h))
-
--- Each issued chunk counts from the send start of the first chunk issued of its job.
-pub issued-started : (f : Farm) (cs : List Call) (w : History) → Demand3 f cs w
-    → All (λ (y : Span). y .from ≡ startOf (y .chunk .job) (map chunkOf (w .lines))) (w .lines)
-issued-started f cs w d =
-    let each : All (Started w) (map (λ (x : Accepted). x .number) (w .jobs)) =
-    all-image (Started w) (λ (x : Accepted). x .number) (w .jobs)
-    (all-map (λ x h. started-from w (x .number) (⊎-elim (λ (i : Issued x w). i .start) (⊎-elim (λ (b : Booked x w). subst FromFirst (sym (b .lines)) tt) (λ (g : Withdrawn (x .number) w). subst FromFirst (sym (g .lines)) tt)) h)) (w .jobs) (d .each)) in
-    all-of (w .lines) (λ y m.
-    at-member (λ (z : Span). z .chunk .job ≡ y .chunk .job → z .from ≡ startOf (y .chunk .job) (map chunkOf (w .lines))) m
-    (at-member (Started w) (at-member (λ (z : Span). List·Memᴰ (z .chunk .job) (map (λ (x : Accepted). x .number) (w .jobs))) m (d .only)) each) refl)
-
-held-among : (s : ℕ) (all : List Chunk) (xs : List Span) → All (λ (y : Span). y .from ≡ startOf (y .chunk .job) all) xs → heldOf s xs ≡ heldAmong s all (map chunkOf xs)
-unfolding heldOf heldAmong
-held-among s all [] h = refl
-held-among s all (x ∷ xs) h = go (eqb (x .chunk .show) s) (held-among s all xs (h .1))
-  where
-    go : (b : Bool) → heldOf s xs ≡ heldAmong s all (map chunkOf xs)
-        → cond b (holds x + heldOf s xs) (heldOf s xs) ≡ cond b ((x .chunk .finish - startOf (x .chunk .job) all) + heldAmong s all (map chunkOf xs)) (heldAmong s all (map chunkOf xs))
-    go true r = ap (λ (u : ℕ). (x .chunk .finish - u) + heldOf s xs) (h .0) ∙ ap (λ (u : ℕ). (x .chunk .finish - startOf (x .chunk .job) all) + u) r
-    go false r = r
-
--- The sum over the issued chunks of a show can be read from the printed lines alone.
-pub held-printed : (f : Farm) (cs : List Call) (w : History) → Demand3 f cs w → (s : ℕ) → heldOf s (w .lines) ≡ heldIn s (map chunkOf (w .lines))
-held-printed f cs w d s = held-among s (map chunkOf (w .lines)) (w .lines) (issued-started f cs w d)
 
 -- ---- A line that can be read
 
@@ -393,14 +314,14 @@ module _ (before : List (List ℕ)) (l : List ℕ) (h : All Stays before) (o : O
       → collect g (prints unopened (before ++ l ∷ after)) ≡ noted (run (opening (farmOn l)) (callsIn after))
   lines-collect g noted x after = collect-prints g unopened (before ++ l ∷ after) ∙ lines-read (λ f ns. g) noted x after
 
-  lines-chunks : (after : List (List ℕ)) → chunksIn (prints unopened (before ++ l ∷ after)) ≡ map chunkOf (run (opening (farmOn l)) (callsIn after) .lines)
-  lines-chunks after = lines-collect chunkIn (λ (w : History). map chunkOf (w .lines)) chunks-reading after
+  lines-chunks : (after : List (List ℕ)) → chunksIn (prints unopened (before ++ l ∷ after)) ≡ run (opening (farmOn l)) (callsIn after) .lines
+  lines-chunks after = lines-collect chunkIn (λ (w : History). w .lines) chunks-reading after
 
   lines-demand : (after : List (List ℕ)) → Demand3 (farmOn l) (callsIn after) (run (opening (farmOn l)) (callsIn after))
   lines-demand after = demand3 (getD (numbersOf l) 0 0) (costsIn (numbersOf l)) (allowancesOn l) (o .granted) (callsIn after)
 
   lines-account : (part : List (List ℕ)) (s : ℕ)
-      → accountSaid (run (opening (farmOn l)) (callsIn part) .farm) s ≡ accountOf (allowancesOn l) s (map chunkOf (run (opening (farmOn l)) (callsIn part) .lines))
+      → accountSaid (run (opening (farmOn l)) (callsIn part) .farm) s ≡ accountOf (allowancesOn l) s (run (opening (farmOn l)) (callsIn part) .lines)
   unfolding accountSaid
   lines-account part s =
       ap (λ (b : Bool). cond b (cond (between 1 s (w .farm .shows)) said (refused 4)) (refused 11)) (d .passes)
@@ -419,9 +340,8 @@ module _ (before : List (List ℕ)) (l : List ℕ) (h : All Stays before) (o : O
       shows : w .farm .shows ≡ length (allowancesOn l)
       shows = run-keeps (opening (farmOn l)) (callsIn part) .shows ∙ opens-shows l o
 
-      held : between 1 s (length (allowancesOn l)) ≡ true → heldBy (w .farm) s ≡ heldIn s (map chunkOf (w .lines))
-      held e =
-          d .held s (subst (λ (n : ℕ). Between 1 s n) (sym shows) (between-is 1 s (length (allowancesOn l)) e)) ∙ held-printed (farmOn l) (callsIn part) w d s
+      held : between 1 s (length (allowancesOn l)) ≡ true → heldBy (w .farm) s ≡ heldOf s (w .lines)
+      held e = d .held s (subst (λ (n : ℕ). Between 1 s n) (sym shows) (between-is 1 s (length (allowancesOn l)) e))
 
       allowance : between 1 s (length (allowancesOn l)) ≡ true → allowanceOf (w .farm) s ≡ getD (allowancesOn l) (s - 1) 0
       allowance e =
@@ -429,10 +349,10 @@ module _ (before : List (List ℕ)) (l : List ℕ) (h : All Stays before) (o : O
 
       go : (b : Bool) → between 1 s (length (allowancesOn l)) ≡ b
           → cond b said (refused 4)
-          ≡ cond b (granted Account (s ∷ heldIn s (map chunkOf (w .lines)) ∷ (heldIn s (map chunkOf (w .lines)) - getD (allowancesOn l) (s - 1) 0) ∷ [])) (refused 4)
+          ≡ cond b (granted Account (s ∷ heldOf s (w .lines) ∷ (heldOf s (w .lines) - getD (allowancesOn l) (s - 1) 0) ∷ [])) (refused 4)
       go true e =
           ap (λ (n : ℕ). granted Account (s ∷ n ∷ (n - allowanceOf (w .farm) s) ∷ [])) (held e)
-          ∙ ap (λ (n : ℕ). granted Account (s ∷ heldIn s (map chunkOf (w .lines)) ∷ (heldIn s (map chunkOf (w .lines)) - n) ∷ [])) (allowance e)
+          ∙ ap (λ (n : ℕ). granted Account (s ∷ heldOf s (w .lines) ∷ (heldOf s (w .lines) - n) ∷ [])) (allowance e)
       go false e = refl
 
   lines-opened : (part : List (List ℕ)) → farmAfter unopened (before ++ l ∷ part) .opened ≡ true

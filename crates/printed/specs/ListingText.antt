@@ -27,7 +27,7 @@ listedLines =
     ∷ 97 ∷ 99 ∷ 99 ∷ 111 ∷ 117 ∷ 110 ∷ 116 ∷ 9 ∷ 49 ∷ 10
     ∷ 97 ∷ 99 ∷ 99 ∷ 111 ∷ 117 ∷ 110 ∷ 116 ∷ 9 ∷ 50 ∷ 10 ∷ []
 
--- what the paper prints
+-- what the papers print: document 01's lines, with the columns of show 1 that document 02 (vi) makes of it
 abbrev pub listedText : List ℕ
 listedText =
     111 ∷ 112 ∷ 101 ∷ 110 ∷ 9 ∷ 51 ∷ 9 ∷ 50 ∷ 10
@@ -38,10 +38,10 @@ listedText =
     ∷ 99 ∷ 104 ∷ 117 ∷ 110 ∷ 107 ∷ 9 ∷ 49 ∷ 9 ∷ 49 ∷ 9 ∷ 50 ∷ 9 ∷ 52 ∷ 9 ∷ 54 ∷ 9 ∷ 49 ∷ 48 ∷ 9 ∷ 49 ∷ 56 ∷ 10
     ∷ 99 ∷ 104 ∷ 117 ∷ 110 ∷ 107 ∷ 9 ∷ 50 ∷ 9 ∷ 50 ∷ 9 ∷ 51 ∷ 9 ∷ 51 ∷ 9 ∷ 49 ∷ 48 ∷ 9 ∷ 49 ∷ 51 ∷ 9 ∷ 49 ∷ 57 ∷ 10
     ∷ 99 ∷ 108 ∷ 111 ∷ 99 ∷ 107 ∷ 9 ∷ 49 ∷ 48 ∷ 9 ∷ 51 ∷ 10
-    ∷ 97 ∷ 99 ∷ 99 ∷ 111 ∷ 117 ∷ 110 ∷ 116 ∷ 9 ∷ 49 ∷ 9 ∷ 51 ∷ 54 ∷ 9 ∷ 54 ∷ 10
+    ∷ 97 ∷ 99 ∷ 99 ∷ 111 ∷ 117 ∷ 110 ∷ 116 ∷ 9 ∷ 49 ∷ 9 ∷ 51 ∷ 48 ∷ 9 ∷ 48 ∷ 10
     ∷ 97 ∷ 99 ∷ 99 ∷ 111 ∷ 117 ∷ 110 ∷ 116 ∷ 9 ∷ 50 ∷ 9 ∷ 57 ∷ 9 ∷ 57 ∷ 10 ∷ []
 
--- The listing prints what the paper says, byte for byte: `open`, `yes`, `no`, the chunk lines, `clock` and the columns.
+-- The listing prints what the papers say, byte for byte: `open`, `yes`, `no`, the chunk lines, `clock` and the columns.
 pub listing-text : dayText listedLines ≡ listedText
 unfolding first left capacity cut greedy earliest finish sum noLater insertKey sortOnto nodeKeys ranked search bookingOf bookedAt bookOf chunksFrom spansOfAll afters fitAll keysBy plan booksAll allAtMost allAtLeast costsWithin countsWithin timesWithin jobWithin sharesKept jobKept jobPasses jobsPass noneOf allDiffer waitingPass passesOf openSaid openFarm ofNumber offerAsked offerSaid offerFarm keep linesOfAll raised moveAsked moveSaid moveFarm moveMemory accountSaid valueFrom same fields allDigits allNumbers kindAmong kindOf readable digits reached decimal tabbed lineText answerText chunkTexts farmLine jobLine clockLine accountLine called recorded answered linesIn answers
 listing-text = refl

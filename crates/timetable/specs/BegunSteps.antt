@@ -10,7 +10,7 @@ use Rattle.keys.specs.declared.Key.{Key}
 use Rattle.keys.specs.Model.{noKey}
 use Rattle.walk.specs.declared.Job.{Job}
 use Rattle.walk.specs.declared.Busy.{Busy}
-use Rattle.walk.specs.Model.{noJob, linesOf, afters, spansOf, spansOfAll, inOrder}
+use Rattle.walk.specs.Model.{noJob, linesOf, afters, inOrder}
 use Rattle.walk.specs.Chunks.{Sends}
 use Rattle.timetable.specs.Model.{linesOfAll, raised}
 use Rattle.timetable.specs.BeginSteps.{Raises, RaisesAll, afters-append}
@@ -22,7 +22,7 @@ use Rattle.timetable.specs.LinesSteps.{named-all}
 pub record Beginning (c : FarmCosts) (jobs : List Job) (keys : List Key) (n : ℕ) (first : Busy) (held : List ℕ) (busy : Busy) (cells : List ℕ) (i : ℕ) : Type 0 where
   pub size : length cells ≡ 32
   pub times : afters first (linesOfAll c (inOrder jobs (take n keys))) ≡ afters busy (linesOfAll c (inOrder jobs (drop i (take n keys))))
-  pub ticks : raised held (spansOfAll c (inOrder jobs (take n keys))) ≡ raised cells (spansOfAll c (inOrder jobs (drop i (take n keys))))
+  pub ticks : raised held (linesOfAll c (inOrder jobs (take n keys))) ≡ raised cells (linesOfAll c (inOrder jobs (drop i (take n keys))))
   pub most : (k : ℕ) → getD cells k 0 ≤ getD held k 0 + i * 64_000_000_000_000
 
 module _ (c : FarmCosts) (jobs : List Job) (keys : List Key) (n i : ℕ) (h : i < n) (f : n ≤ length keys) (first : Busy) (held : List ℕ) (busy : Busy) (cells : List ℕ) (x : Beginning c jobs keys n first held busy cells i) where
@@ -40,21 +40,21 @@ module _ (c : FarmCosts) (jobs : List Job) (keys : List Key) (n i : ℕ) (h : i 
       }
 
   -- It has begun, and the others come next.
-  pub beginning-next : Sends c named → Beginning c jobs keys n first held (afters busy (linesOf c named)) (raised cells (spansOf c named)) (i + 1)
-  unfolding linesOfAll spansOfAll
+  pub beginning-next : Sends c named → Beginning c jobs keys n first held (afters busy (linesOf c named)) (raised cells (linesOf c named)) (i + 1)
+  unfolding linesOfAll
   beginning-next s =
       let next = front-next noKey keys n i h f in
       record {
-        size = raised-length cells (spansOf c named) ∙ x .size;
+        size = raised-length cells (linesOf c named) ∙ x .size;
         times = x .times ∙ rw next (afters-append busy (linesOf c named) _);
-        ticks = x .ticks ∙ rw next (raised-append cells (spansOf c named) _);
+        ticks = x .ticks ∙ rw next (raised-append cells (linesOf c named) _);
         most = λ k. omega (arith, x .most k, job-most c cells named k s);
       }
 
 -- At the end all have begun.
 pub beginning-all : (c : FarmCosts) (jobs : List Job) (keys : List Key) (n i : ℕ) (first : Busy) (held : List ℕ) (busy : Busy) (cells : List ℕ) → n ≤ i → n ≤ length keys → Beginning c jobs keys n first held busy cells i
-    → (busy ≡ afters first (linesOfAll c (inOrder jobs (take n keys)))) × (cells ≡ raised held (spansOfAll c (inOrder jobs (take n keys)))) × (length cells ≡ 32)
-unfolding linesOfAll spansOfAll afters raised
+    → (busy ≡ afters first (linesOfAll c (inOrder jobs (take n keys)))) × (cells ≡ raised held (linesOfAll c (inOrder jobs (take n keys)))) × (length cells ≡ 32)
+unfolding linesOfAll afters raised
 beginning-all c jobs keys n i first held busy cells h f x =
     let none = front-none keys n i f h in
     (sym (x .times ∙ rw none), sym (x .ticks ∙ rw none), x .size)

@@ -7,7 +7,7 @@ use lib.ListN.{getD, set}
 use Rattle.limits.specs.declared.FarmCosts.{FarmCosts}
 use Rattle.walk.specs.declared.Job.{Job}
 use Rattle.walk.specs.declared.Chunk.{Chunk}
-use Rattle.walk.specs.Model.{Span, linesOf}
+use Rattle.walk.specs.Model.{linesOf}
 
 -- its start is at most t
 abbrev pub startsBy : ℕ → Job → Bool
@@ -26,11 +26,11 @@ linesOfAll c (j ∷ js) = linesOf c j ++ linesOfAll c js
 abbrev pub rowOf : Chunk → List ℕ
 rowOf x = x .job ∷ x .show ∷ x .node ∷ x .units ∷ x .start ∷ x .sent ∷ x .finish ∷ []
 
--- what an issued chunk adds to its show's held ticks: its finish minus its job's start
-abbrev pub holds : Span → ℕ
-holds x = x .chunk .finish - x .from
+-- what an issued chunk adds to its show's held ticks: its finish minus the start of its own send
+abbrev pub holds : Chunk → ℕ
+holds x = x .finish - x .start
 
 -- each issued chunk raises its show's cell
-unfoldable pub raised : List ℕ → List Span → List ℕ
+unfoldable pub raised : List ℕ → List Chunk → List ℕ
 raised hs [] = hs
-raised hs (x ∷ xs) = raised (set hs (x .chunk .show - 1) (getD hs (x .chunk .show - 1) 0 + holds x)) xs
+raised hs (x ∷ xs) = raised (set hs (x .show - 1) (getD hs (x .show - 1) 0 + holds x)) xs

@@ -3,13 +3,14 @@ ghost use mathlib.Core.Path.{_≡_};
 ghost use Prim.Native.Nat.{_≤_, _<_};
 ghost use lib.ListN.{length, take};
 ghost use Rattle.lists.specs.Laws.{All};
-ghost use Rattle.walk.specs.Model.{afters, spansOf, spansOfAll, inOrder};
+ghost use Rattle.walk.specs.Model.{afters, linesOf, inOrder};
 ghost use Rattle.timetable.specs.Model.{linesOfAll, raised};
 ghost use Rattle.timetable.specs.BeginSteps.{chunks, Few, Raises, RaisesAll};
 ghost use Rattle.timetable.specs.DueSteps.{IsDue};
 use crate::Due;
 use keys::Key;
 use limits::FarmCosts;
+use numbers::less;
 use walk::Busy;
 use walk::Job;
 use walk::chunk_on;
@@ -72,17 +73,16 @@ pub fn line_count(jobs: [Job; 128], count: usize) -> usize
     lines
 }
 
-// Raises the held ticks of a job's show: each of its chunks adds its finish minus the job's start. The cells are
-// lent, not copied.
+// Raises the held ticks of a job's show: each of its chunks adds its finish minus the start of its own send. The cells
+// are lent, not copied.
 pub fn raise(costs: FarmCosts, job: Job, held: &mut [u64; 32])
     requires { ⌜ Raises costs (now held) job ⌝ }
-    ensures { λ _. ⌜ now (held .exit) ≡ raised (now (held .entry)) (spansOf costs job) ⌝ }
+    ensures { λ _. ⌜ now (held .exit) ≡ raised (now (held .entry)) (linesOf costs job) ⌝ }
 {
     let booking = job.booking;
     let count = booking.count;
-    let start = booking.start;
     let place = (job.show - 1) as usize;
-    let mut time = start;
+    let mut time = booking.start;
     let mut i = 0;
     while i < count {
         let chunk = chunk_on(
@@ -94,7 +94,7 @@ pub fn raise(costs: FarmCosts, job: Job, held: &mut [u64; 32])
             booking.shares[i],
             time,
         );
-        held[place] = held[place] + (chunk.finish - start);
+        held[place] = held[place] + less(chunk.finish, chunk.start);
         time = chunk.sent;
         i += 1;
     }
@@ -110,7 +110,7 @@ pub fn begun_by(
     count: usize,
 ) -> Begun
     requires { ⌜ (count ≤ 128) × All (λ (k : Key). k .place < 128) (take count keys) × RaisesAll costs held (inOrder jobs (take count keys)) ⌝ }
-    ensures { λ r. ⌜ (r .busy ≡ afters busy (linesOfAll costs (inOrder jobs (take count keys)))) × (r .held ≡ raised held (spansOfAll costs (inOrder jobs (take count keys)))) × (length (r .held) ≡ 32) ⌝ }
+    ensures { λ r. ⌜ (r .busy ≡ afters busy (linesOfAll costs (inOrder jobs (take count keys)))) × (r .held ≡ raised held (linesOfAll costs (inOrder jobs (take count keys)))) × (length (r .held) ≡ 32) ⌝ }
 {
     let mut free = busy.free;
     let mut link = busy.link;

@@ -3,8 +3,6 @@ use mathlib.Core.Path.{refl, sym, ap, _∙_}
 use mathlib.Core.List.{List}
 use Prim.Native.Nat.{_-_, _≤_}
 use native.Mathlib.Omega.{arith}
-use Rattle.walk.specs.declared.Chunk.{Chunk}
-use Rattle.walk.specs.Model.{placed}
 use Rattle.walk.specs.Chunks.{lines-none, ends-next, begins-within}
 use Rattle.timetable.specs.Model.{raised}
 use Rattle.timetable.specs.HeldSteps.{Raising, raising-next}
@@ -13,10 +11,10 @@ use Rattle.timetable.proofs.begin.raise.Statement.{statement}
 use Rattle.timetable.proofs.begin.raise.Tie as tie
 
 abbrev Inv-loop : tie.InvT-loop
-Inv-loop costs job held₀ booking count start place time₀ i₀ held time i = (i ≤ count) × Raising costs job held₀ held time i
+Inv-loop costs job held₀ booking count place time₀ i₀ held time i = (i ≤ count) × Raising costs job held₀ held time i
 
 abbrev μ-loop : tie.MeasureT-loop
-μ-loop costs job held₀ booking count start place time₀ i₀ held time i = count - i
+μ-loop costs job held₀ booking count place time₀ i₀ held time i = count - i
 
 sub-place : tie.Need-sub-place Inv-loop μ-loop
 sub-place c = omega (arith, c .before .before .pre .show)
@@ -24,7 +22,7 @@ sub-place c = omega (arith, c .before .before .pre .show)
 loop-holds : tie.Need-loop-holds Inv-loop μ-loop
 loop-holds c =
     let p = c .before .before .pre in
-    (omega arith, record { same = refl; ends = p .sends .ends; from = omega arith; most = omega arith })
+    (omega arith, record { same = refl; ends = p .sends .ends; most = omega arith })
 
 element-copy-out-chunk-on : tie.Need-element-copy-out-chunk-on Inv-loop μ-loop
 element-copy-out-chunk-on c = search needs
@@ -48,15 +46,15 @@ mul-held c = search needs
 element-copy-out-held : tie.Need-element-copy-out-held Inv-loop μ-loop
 element-copy-out-held c = search needs
 
-sub-held : tie.Need-sub-held Inv-loop μ-loop
-sub-held c = rw (c .before .before .chunk-on .ensures) (omega arith)
+less-requires : tie.Need-less-requires Inv-loop μ-loop
+less-requires c κs = search needs
 
 add-held : tie.Need-add-held Inv-loop μ-loop
 add-held c =
     let s = c .before .before .before .before .before .before .before .before .before in
     let l = c .before .before .before .before .before .before .loop in
     let n = ends-next (s .args .costs) (s .args .job) (s .pre .sends) (l .i) (l .time) (c .before .before .before .before .before .loop-test .taken) (l .inv .1 .ends) in
-    rw (c .before .before .chunk-on .ensures) (omega (arith, n .0, s .pre .room, s .pre .sends .few, l .inv .1 .most))
+    rw (c .less .ensures, c .before .before .chunk-on .ensures) (omega (arith, n .0, s .pre .room, s .pre .sends .few, l .inv .1 .most))
 
 mul-held-2 : tie.Need-mul-held-2 Inv-loop μ-loop
 mul-held-2 c = search needs
@@ -74,7 +72,7 @@ loop-again : tie.Need-loop-again Inv-loop μ-loop
 loop-again c =
     let s = c .before .before .before .before .before .before .before .before .before in
     let l = c .before .before .before .before .before .before .loop in
-    rw (c .before .before .chunk-on .ensures)
+    rw (c .less .ensures, c .before .before .chunk-on .ensures)
     (omega arith, raising-next (s .args .costs) (s .args .job) (s .pre .sends) (s .args .held .now) (l .held) (l .time) (l .i) (c .before .before .before .before .before .loop-test .taken) (l .inv .1))
 
 returns : tie.Need-returns Inv-loop μ-loop
@@ -83,7 +81,7 @@ returns c =
     let s = c .before .before .before .before in
     let l = c .before .loop in
     let none = lines-none (s .args .costs) (s .args .job) (s .pre .sends) (l .i) (l .time) (c .loop-test .left) in
-    sym (l .inv .1 .same ∙ ap (λ (xs : List Chunk). raised (l .held) (placed (s .args .job .booking .start) xs)) none)
+    sym (l .inv .1 .same ∙ ap (raised (l .held)) none)
 
 pub raise-spec : {M : Type 1} → statement M
 raise-spec =
@@ -99,7 +97,7 @@ raise-spec =
     chunk-on-requires
     mul-held
     element-copy-out-held
-    sub-held
+    less-requires
     add-held
     mul-held-2
     element-write-held
