@@ -17,6 +17,7 @@ pub mod Lifecycles
 pub mod Demand1
 pub mod Demand2
 pub mod Demand3
+pub mod JobHolds
 pub mod Kept
 pub mod Reached
 pub mod Cases

@@ -82,6 +82,21 @@ array-read-if2 c =
     let k = node-known (a .costs) (a .job) s (l .i) (l .from) (c .before .before .before .before .loop-test .taken) in
     rw (c .before .chunk-on .ensures) (omega (arith, k, l .inv .1))
 
+loop-again : tie.Need-loop-again Inv-loop μ-loop
+loop-again c =
+    let z = c .before .before .before .before .before .before .before .before .before in
+    let a = z .args in
+    let s = bounded-sends (a .costs) (a .job) (z .pre) (nodes-length (a .job) (z .good .1 .1 .0)) (shares-length (a .job) (z .good .1 .1 .0)) in
+    let l = c .before .before .before .before .before .before .loop in
+    let x = c .before .before .chunk-on in
+    let more = c .before .before .before .before .before .loop-test .taken in
+    let now : Busy = record { link = l .link; free = l .free } in (
+      omega arith,
+      simp length-set (l .inv .1),
+      rw (x .ensures) (ends-next (a .costs) (a .job) s (l .i) (l .from) more (l .inv .2) .1),
+      fitting-more (a .costs) (a .busy) (a .job) now (l .from) (l .i) (l .inv .3) s more (x .result) (x .ensures) (c .before .if1 .left) (c .if2 .left),
+    )
+
 returns-2 : tie.Need-returns-2 Inv-loop μ-loop
 returns-2 c =
     let z = c .before .before .before .before .before .before .before .before .before in
@@ -114,21 +129,6 @@ add-i c = search needs
 
 loop-less : tie.Need-loop-less Inv-loop μ-loop
 loop-less c = search needs
-
-loop-again : tie.Need-loop-again Inv-loop μ-loop
-loop-again c =
-    let z = c .before .before .before .before .before .before .before .before .before in
-    let a = z .args in
-    let s = bounded-sends (a .costs) (a .job) (z .pre) (nodes-length (a .job) (z .good .1 .1 .0)) (shares-length (a .job) (z .good .1 .1 .0)) in
-    let l = c .before .before .before .before .before .before .loop in
-    let x = c .before .before .chunk-on in
-    let more = c .before .before .before .before .before .loop-test .taken in
-    let now : Busy = record { link = l .link; free = l .free } in (
-      omega arith,
-      simp length-set (l .inv .1),
-      rw (x .ensures) (ends-next (a .costs) (a .job) s (l .i) (l .from) more (l .inv .2) .1),
-      fitting-more (a .costs) (a .busy) (a .job) now (l .from) (l .i) (l .inv .3) s more (x .result) (x .ensures) (c .before .if1 .left) (c .if2 .left),
-    )
 
 returns-3 : tie.Need-returns-3 Inv-loop μ-loop
 returns-3 c =
