@@ -190,8 +190,8 @@ impl Day {
     }
 
     fn account(&mut self, show: u64) {
-        let account = self.session.farm().map(|farm| farm.account(show));
-        if let Some(Ok(account)) = account {
+        let farm = self.session.farm();
+        if let Some(account) = farm.and_then(|farm| farm.account(show).ok()) {
             self.asked.push((show, account.held));
         }
         self.line(b"account", &[show]);

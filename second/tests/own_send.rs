@@ -171,8 +171,9 @@ fn a_job_waits_for_the_node_of_its_last_chunk() {
     );
 }
 
-/// Job 1 is withdrawn before it begins. Job 2, 10 units by 38, was booked behind it on
-/// nodes 3 and 1 from 18 and stays there; it holds 18 and 36 - 24.
+/// Job 1 is withdrawn before it begins. Job 2, 10 units by 38, was booked behind it:
+/// node 3 alone holds 9 units from 10 on, so it has nodes 3 and 1 from 18. It stays
+/// there and holds 18 and 36 - 24.
 #[test]
 fn a_withdrawn_job_holds_nothing() {
     check_both(

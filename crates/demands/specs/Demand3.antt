@@ -15,6 +15,9 @@
 --   "No later call alters an issued chunk."                                           unaltered
 --   "No two chunks, issued or booked, are on one node, and no two of their sends on the link, in the same tick."   apart
 --   "After the list each show's held ticks equal the sum over its issued chunks."     held
+--   document 02 (vi): "A chunk's held ticks are now its finish minus its own send start."   held (`holds` in timetable/specs/Model.antt; what a job's chunks
+--                                                                                     come to: `job-holds` in JobHolds.antt), limit
+--   "Planning and node spans are unaffected."                                         apart, walks; a span begins at its job's start: each (`start` of `Issued`)
 --   document 02 (ii): "All other bookings keep start, nodes and shares;"              withdrawals (each other waiting job is, whole, the one it was)
 --   "the next offer walks without it. Earliest start and fewest nodes hold of a booking as of the walk that made it."   walks, latest
 --   "A withdrawn job owes nothing and is issued nothing,"                             gone, stories (`withdrawn` of `Lifecycle`); its number is never used
@@ -33,11 +36,11 @@ use native.Mathlib.Nat.{mul-le-mul-right}
 use native.Mathlib.Omega.{arith}
 use borrow.Author.Tests.{eqb-true, eqb-false}
 use lib.Dec.{eqb}
-use lib.ListN.{length, replicate, length-replicate, getD-replicate}
+use lib.ListN.{length, take, replicate, length-replicate, getD-replicate}
 use Rattle.lists.specs.Laws.{All, Pairs, Differ, all-map, all-of, all-image, image-all, all-append, all-join, pairs-across, pairs-parts, perm-all, perm-mem, perm-pairs, mem-image, at-member, mem-left, mem-right, map-join}
 use Rattle.shares.specs.declared.Costs.{Costs}
 use Rattle.limits.specs.declared.FarmCosts.{FarmCosts}
-use Rattle.shares.specs.Model.{finish}
+use Rattle.shares.specs.Model.{sum, finish}
 use Rattle.shares.specs.Lists.{Positive}
 use Rattle.booking.specs.Best.{freeAt, units}
 use Rattle.walk.specs.declared.Job.{Job}
@@ -56,7 +59,7 @@ use Rattle.soundness.specs.Sweep.{spans-all, spans-perm, apart-sym}
 use Rattle.demands.specs.QuestionEleven.{passes-iff}
 use Rattle.planner.specs.Calls.{ofNumber, without, Open, Said, granted, refused, showsWithin, openFarm, openSaid, heldBy, newJob, queueOf, planned, withPlan, asQuote, withdrawnFarm}
 use Rattle.demands.specs.OfferPasses.{waiting-planned}
-use Rattle.planner.specs.Clock.{linesOfAll, begun, issued, moveAsked}
+use Rattle.planner.specs.Clock.{holds, linesOfAll, begun, issued, moveAsked}
 use Rattle.demands.specs.Starts.{StartsDiffer, starts-differ, next-few, next-granted}
 use Rattle.demands.specs.CallLists.{Call, offer, quote, withdraw, move, reply, handed, isGranted, linesBy, chunkOf, Accepted, jobsBy, History, opening, note, run, answersOf, withoutQuotes, otherAnswers, heldOf, upTo, linesFor, latestFinish, latestSent, acceptedOf, Fulfils, Waits, IssuesNone, Lifecycle}
 use Rattle.demands.specs.BegunJobs.{lines-all}
@@ -64,7 +67,7 @@ use Rattle.queue.specs.Numbers.{numberOfJob, of-number-has}
 use Rattle.demands.specs.WithdrawPasses.{leaves-others, withdrawn-waiting}
 use Rattle.demands.specs.MovePasses.{Waiting, waiting-jobs, booked-chain}
 use Rattle.demands.specs.Outcome.{taken, Takes, Leaves, Moves, outcome}
-use Rattle.demands.specs.Invariant.{idle, Whole, Inv, plan-accepted, spans-issued, busy-spans, whole-proper, open-inv, note-inv, run-inv}
+use Rattle.demands.specs.Invariant.{idle, Whole, Inv, plan-accepted, spans-issued, busy-spans, whole-proper, issued-within-free, open-inv, note-inv, run-inv}
 use Rattle.demands.specs.Quotes.{quote-next, run-without, answers-without}
 use Rattle.demands.specs.Lifecycles.{lines-named, none-of-jobs, lines-none, lines-own, spans-start, whole-fulfils, waits-as, NoLongerWaits, issues-no-more, begun-no-longer-waits, front-differ, none-before, Among, lifecycle}
 
@@ -141,6 +144,8 @@ pub record Demand3 (f : Farm) (cs : List Call) (w : History) : Type 0 where
   pub spans : map chunkOf (w .spans) ≡ w .lines
   -- Each show's held ticks equal the sum over its issued chunks.
   pub held : (s : ℕ) → Between 1 s (w .farm .shows) → heldBy (w .farm) s ≡ heldOf s (w .lines)
+  -- All held ticks together are at most the sum of the nodes' free times, and no show's are above 64,000,000,000,000.
+  pub limit : (sum (map holds (w .lines)) ≤ sum (w .farm .free)) × All (λ (x : ℕ). x ≤ 64_000_000_000_000) (take (w .farm .shows) (w .farm .held))
   -- Each node's free time is the latest finish of a chunk issued on it, and the link's the latest end of an issued send.
   pub free : (k : ℕ) → Between 1 k (w .farm .nodes) → freeAt (w .farm .free) k ≡ latestFinish k (w .lines)
   pub link : w .farm .link ≡ latestSent (w .lines)
@@ -449,6 +454,7 @@ demand3 n c al e cs =
       apart = all-apart w i;
       spans = spans-issued w i;
       held = λ s h. i .held s (h .0, omega (arith, h .1, passes-iff (w .farm) (i .sized) .0 (i .passes) .within .shows .1));
+      limit = (issued-within-free w i, passes-iff (w .farm) (i .sized) .0 (i .passes) .within .held);
       free = node-free w i;
       link = link-free w i;
       clock = i .clock;

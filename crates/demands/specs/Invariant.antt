@@ -283,20 +283,33 @@ free-limits : (c : FarmCosts) (n : ℕ) (js : List Job) → All (Whole c n) js
 free-limits c n js h =
     afters-within greatest idle (linesOfAll c js) (omega arith) (all-replicate (λ (x : ℕ). x ≤ greatest) 64 0 (omega arith)) (whole-limits c n js h)
 
--- As spans on a node do not overlap, a show's held ticks are at most 64 times the time range.
-held-limit : (c : FarmCosts) (n s : ℕ) (js : List Job) → All (Whole c n) js → Chain idle (spansOfAll c js) → heldOf s (linesOfAll c js) ≤ 64_000_000_000_000
-held-limit c n s js h k =
+-- As spans on a node do not overlap, all held ticks together are within the free times,
+held-within-free : (c : FarmCosts) (n : ℕ) (js : List Job) → All (Whole c n) js → Chain idle (spansOfAll c js) → sum (map holds (linesOfAll c js)) ≤ sum (afters idle (linesOfAll c js) .free)
+held-within-free c n js h k =
     let within : sum (map holds (linesOfAll c js)) + sum (idle .free) ≤ sum (afters idle (linesOfAll c js) .free) =
     subst (λ (l : List Chunk). sum (map holds l) + sum (idle .free) ≤ sum (afters idle l .free)) (spans-chunks c js)
     (held-free idle (spansOfAll c js) (length-replicate {A = ℕ} 64 0) (whole-proper c n js h) k) in
+    omega arith
+
+-- and a show's are at most 64 times the time range.
+held-limit : (c : FarmCosts) (n s : ℕ) (js : List Job) → All (Whole c n) js → Chain idle (spansOfAll c js) → heldOf s (linesOfAll c js) ≤ 64_000_000_000_000
+held-limit c n s js h k =
     omega (
       arith,
       held-part s (linesOfAll c js),
-      within,
+      held-within-free c n js h k,
       sum-within greatest (afters idle (linesOfAll c js) .free) (free-limits c n js h .1),
       afters-length idle (linesOfAll c js),
       length-replicate {A = ℕ} 64 0,
     )
+
+-- So it is of all that was issued.
+pub issued-within-free : (w : History) → Inv w → sum (map holds (w .lines)) ≤ sum (w .farm .free)
+issued-within-free w i =
+    let c = w .farm .costs in
+    let lines : sum (map holds (w .lines)) ≡ sum (map holds (linesOfAll c (i .past))) = ap (λ (l : List Chunk). sum (map holds l)) (i .lines) in
+    let free : sum (w .farm .free) ≡ sum (afters idle (linesOfAll c (i .past)) .free) = ap (λ (b : Busy). sum (b .free)) (i .busy ∙ ap (afters idle) (i .lines)) in
+    omega (arith, lines, free, held-within-free c (w .farm .shows) (i .past) (i .whole) (subst (Chain idle) (i .spans) (i .chain)))
 
 -- ---- A granted clock move
 

@@ -3,7 +3,7 @@
 pub use Rattle.timetable.specs.Model.{startsBy, startsAfter, holds}
 unfoldable pub use Rattle.lists.specs.Keep.{keep}
 unfoldable pub use Rattle.timetable.specs.Model.{linesOfAll, raised}
-use Prim.Native.Nat.{ℕ, _+_}
+use Prim.Native.Nat.{ℕ}
 use mathlib.Core.List.{List, [], _∷_, _++_}
 use mathlib.Core.Bool.{cond}
 use lib.Dec.{leb, eqb}

@@ -10,7 +10,6 @@ use Prim.Native.Nat.{ℕ, _+_, _-_}
 use lib.Dec.{leb, eqb}
 use lib.ListN.{length, getD, drop, replicate, length-replicate}
 use lib.Seq.{take-at}
-use Rattle.lists.specs.Laws.{map-join}
 use Rattle.limits.specs.declared.FarmCosts.{FarmCosts}
 use Rattle.walk.specs.declared.Chunk.{Chunk}
 use Rattle.walk.specs.Model.{noChunk}

@@ -4,15 +4,14 @@
 -- the allowance on the `farm` line; and a `job` line behind a `quote` line with the same numbers is told what was quoted. Leaving the `quote` lines out of a day leaves the
 -- answer of every other line as it was. The definitions come first; `day-demand3` and `printed-day` at the end are the theorems.
 use mathlib.Core.Path.{_≡_, refl, ap, sym, subst, _∙_}
-use mathlib.Core.List.{List, [], _∷_, _++_, map, append-assoc, List·Memᴰ}
+use mathlib.Core.List.{List, [], _∷_, _++_, append-assoc}
 use mathlib.Core.Bool.{Bool, true, false, cond, _&&_, false≢true}
 use mathlib.Core.Logic.{_⊎_, inl, inr, ⊎-elim}
-use Prim.Native.Nat.{ℕ, zero, suc, _+_, _-_}
+use Prim.Native.Nat.{ℕ, zero, suc, _-_}
 use native.Mathlib.Omega.{arith}
-use borrow.Author.Tests.{eqb-false}
-use lib.Dec.{leb, eqb}
+use lib.Dec.{leb}
 use lib.ListN.{length, getD, replicate, List·getD-append}
-use Rattle.lists.specs.Laws.{All, all-map, all-of, all-image, at-member}
+use Rattle.lists.specs.Laws.{All}
 use Rattle.limits.specs.declared.FarmCosts.{FarmCosts}
 use Rattle.limits.specs.Says.{between-is}
 use Rattle.walk.specs.declared.Chunk.{Chunk}
@@ -23,7 +22,7 @@ use Rattle.reading.specs.declared.Kind.{Kind}
 use Rattle.reading.specs.declared.Kind.the-variants as kind
 use Rattle.reading.specs.Model.{lineKind, readable, numbersOf}
 use Rattle.lines.specs.Model.{Answered, unread, costsIn, allowancesOf, farmLine, offerIn, accountLine, inTurn, called, recorded, longest, answered}
-use Rattle.demands.specs.CallLists.{Call, Accepted, History, opening, run, heldOf}
+use Rattle.demands.specs.CallLists.{History, opening, run, heldOf}
 use Rattle.demands.specs.Demand1.{open-keeps}
 use Rattle.demands.specs.Kept.{run-keeps}
 use Rattle.demands.specs.Demand3.{Demand3, demand3}

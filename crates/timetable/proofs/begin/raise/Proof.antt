@@ -1,6 +1,5 @@
 -- `timetable::begin::raise` meets its contract: the chunks left raise the cells to what all of them make of the held ticks.
 use mathlib.Core.Path.{refl, sym, ap, _∙_}
-use mathlib.Core.List.{List}
 use Prim.Native.Nat.{_-_, _≤_}
 use native.Mathlib.Omega.{arith}
 use Rattle.walk.specs.Chunks.{lines-none, ends-next, begins-within}
