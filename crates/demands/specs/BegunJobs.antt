@@ -2,12 +2,13 @@
 use mathlib.Core.Path.{_≡_, refl, ap, ap₂, sym, subst, _∙_}
 use mathlib.Core.List.{List, [], _∷_, _++_, map, append-assoc, List·Permᴰ, List·Permᴰ·trans, Permᴰ·symm, Permᴰ·append-left}
 use Prim.Native.Nat.{ℕ}
-use Rattle.lists.specs.Laws.{All, all-join, map-join}
+use Rattle.lists.specs.Laws.{All, all-map, all-image, map-join}
 use Rattle.limits.specs.declared.FarmCosts.{FarmCosts}
 use Rattle.walk.specs.declared.Job.{Job}
 use Rattle.walk.specs.declared.Chunk.{Chunk}
 use Rattle.walk.specs.Chain.{spans-lines}
 use Rattle.walk.specs.Order.{by-start-perm, by-start-grows}
+use Rattle.soundness.specs.Sweep.{spans-all}
 use Rattle.lists.specs.Keep.{keep-perm}
 use Rattle.timetable.specs.ByStart.{starts-split}
 use Rattle.planner.specs.declared.Farm.{Farm}
@@ -33,18 +34,6 @@ begun-left f t = List·Permᴰ·trans (subst (List·Permᴰ (waitingOf f)) (begu
 
 -- ---- Spans and lines of several jobs
 
--- The lines of two groups of jobs are those of the one, then those of the other.
-pub lines-joined : (c : FarmCosts) (xs ys : List Job) → linesOfAll c (xs ++ ys) ≡ linesOfAll c xs ++ linesOfAll c ys
-unfolding linesOfAll
-lines-joined c [] ys = refl
-lines-joined c (j ∷ xs) ys = ap (λ (l : List Chunk). linesOf c j ++ l) (lines-joined c xs ys) ∙ sym (append-assoc (linesOf c j) (linesOfAll c xs) (linesOfAll c ys))
-
--- What holds of each job's lines holds of all.
-pub lines-all : (P : Chunk → Type 0) (c : FarmCosts) (js : List Job) → All (λ (j : Job). All P (linesOf c j)) js → All P (linesOfAll c js)
-unfolding linesOfAll
-lines-all P c [] h = tt
-lines-all P c (j ∷ js) h = all-join P (linesOf c j) (linesOfAll c js) (h .0) (lines-all P c js (h .1))
-
 -- The spans of two groups of jobs are those of the one, then those of the other.
 pub spans-append : (c : FarmCosts) (xs ys : List Job) → spansOfAll c (xs ++ ys) ≡ spansOfAll c xs ++ spansOfAll c ys
 unfolding spansOfAll
@@ -56,3 +45,15 @@ pub spans-chunks : (c : FarmCosts) (js : List Job) → map chunkOf (spansOfAll c
 unfolding spansOfAll linesOfAll
 spans-chunks c [] = refl
 spans-chunks c (j ∷ js) = map-join chunkOf (spansOf c j) (spansOfAll c js) ∙ ap₂ _++_ (spans-lines c j) (spans-chunks c js)
+
+-- So what holds of spans holds of lines: the lines of two groups of jobs are those of the one, then those of the other,
+pub lines-joined : (c : FarmCosts) (xs ys : List Job) → linesOfAll c (xs ++ ys) ≡ linesOfAll c xs ++ linesOfAll c ys
+lines-joined c xs ys =
+    sym (spans-chunks c (xs ++ ys)) ∙ ap (map chunkOf) (spans-append c xs ys) ∙ map-join chunkOf (spansOfAll c xs) (spansOfAll c ys) ∙ ap₂ _++_ (spans-chunks c xs) (spans-chunks c ys)
+
+-- and what holds of each job's lines holds of all.
+pub lines-all : (P : Chunk → Type 0) (c : FarmCosts) (js : List Job) → All (λ (j : Job). All P (linesOf c j)) js → All P (linesOfAll c js)
+lines-all P c js h =
+    let each : All (λ (j : Job). All (λ (y : Span). P (y .chunk)) (spansOf c j)) js =
+    all-map (λ j k. all-image (λ (y : Span). P (y .chunk)) (λ (x : Chunk). record { from = j .booking .start; chunk = x }) (linesOf c j) k) js h in
+    subst (All P) (spans-chunks c js) (all-image P chunkOf (spansOfAll c js) (spans-all (λ (y : Span). P (y .chunk)) c js each))
