@@ -1,6 +1,6 @@
 -- What a job holds, document 02 (vi): its nodes' setups and its units' ticks, and nothing of the time that its chunks wait for one another. So two equal jobs on
 -- equally many nodes read alike, whenever they run and however they are divided.
-use mathlib.Core.Path.{_≡_, subst, sym}
+use mathlib.Core.Path.{_≡_, subst, sym, _∙_}
 use mathlib.Core.List.{List, [], _∷_, map}
 use Prim.Native.Nat.{ℕ, _+_, _*_}
 use native.Mathlib.Nat.{mul-add, add-mul}
@@ -32,9 +32,14 @@ job-holds c x xs h =
     subst (λ (n : ℕ). sum (map holds xs) ≡ length xs * (c .linksetup + c .nodesetup) + n * (c .send + (x .compute + c .returning))) (h .all)
     (chunks-hold (acceptedCosts c x) xs (h .finish))
 
--- So do the chunks issued of it, after any list of calls.
+-- After any list of calls the chunks issued of a job hold that.
 pub issued-holds : (x : Accepted) (w : History) → Issued x w
     → sum (map holds (linesFor (x .number) (w .lines)))
     ≡ length (linesFor (x .number) (w .lines)) * (w .farm .costs .linksetup + w .farm .costs .nodesetup)
     + x .size * (w .farm .costs .send + (x .compute + w .farm .costs .returning))
 issued-holds x w i = job-holds (w .farm .costs) x (linesFor (x .number) (w .lines)) (subst (Fulfils (w .farm .costs) x) (sym (i .lines)) (i .chunks))
+
+-- **Equal jobs read alike.** Two jobs of one size and one compute cost hold the same ticks on equally many nodes.
+pub equal-jobs-hold : (c : FarmCosts) (x y : Accepted) (xs ys : List Chunk) → Fulfils c x xs → Fulfils c y ys → x .size ≡ y .size → x .compute ≡ y .compute → length xs ≡ length ys
+    → sum (map holds xs) ≡ sum (map holds ys)
+equal-jobs-hold c x y xs ys h k size compute count = job-holds c x xs h ∙ rw (size, compute, count) (sym (job-holds c y ys k))

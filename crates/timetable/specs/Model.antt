@@ -26,7 +26,7 @@ linesOfAll c (j ∷ js) = linesOf c j ++ linesOfAll c js
 abbrev pub rowOf : Chunk → List ℕ
 rowOf x = x .job ∷ x .show ∷ x .node ∷ x .units ∷ x .start ∷ x .sent ∷ x .finish ∷ []
 
--- what an issued chunk adds to its show's held ticks: its finish minus the start of its own send
+-- what an issued chunk adds to its show's held ticks: its finish minus the start of its own send, document 02 (vi)
 abbrev pub holds : Chunk → ℕ
 holds x = x .finish - x .start
 
