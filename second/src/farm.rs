@@ -192,7 +192,7 @@ impl<W: Walk> Farm<W> {
     fn write_first(&self, jobs: usize, timetable: &mut [Record]) -> Result<usize, Refusal> {
         let lines = self.plan.chunks_of_first(jobs);
         ask(lines <= timetable.len(), Refusal::TimetableFull)?;
-        self.plan.write_first(jobs, timetable);
+        self.plan.write_first(jobs, self.costs(), timetable);
         Ok(lines)
     }
 

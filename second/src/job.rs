@@ -53,6 +53,8 @@ pub struct Record {
     pub send_start: u64,
     pub send_end: u64,
     pub finish: u64,
+    /// By the job's own p: before the finish by what the way back takes.
+    pub compute_end: u64,
 }
 
 /// What the begun jobs left: where every walk begins.
@@ -102,11 +104,12 @@ impl Plan {
         }
     }
 
-    /// Writes the timetable lines of the first bookings.
-    pub fn write_first(&self, bookings: usize, timetable: &mut [Record]) {
+    /// Writes the timetable lines of the first bookings on a farm of these costs.
+    pub fn write_first(&self, bookings: usize, farm_costs: Costs, timetable: &mut [Record]) {
         let mut chunks = self.chunks.iter();
         let mut lines = timetable.iter_mut();
         for booking in self.bookings.range(..bookings) {
+            let costs = booking.job.costs(farm_costs);
             let mut send_start = booking.start;
             for (chunk, line) in chunks.by_ref().zip(lines.by_ref()).take(booking.nodes) {
                 *line = Record {
@@ -117,6 +120,7 @@ impl Plan {
                     send_start,
                     send_end: chunk.send_end,
                     finish: chunk.free.time(),
+                    compute_end: costs.compute_end(chunk.send_end, chunk.units),
                 };
                 send_start = chunk.send_end;
             }

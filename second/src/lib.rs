@@ -1,5 +1,5 @@
 //! A second scheduler for the release farm, made from document 01 and requests (i)
-//! to (vi) of document 02 alone.
+//! to (vii) of document 02 alone.
 //!
 //! The modules stand on one another in this order: the share arithmetic, the
 //! jobs and nodes, the two walks, the farm with its calls, the program.

@@ -105,6 +105,7 @@ fn print_record(answers: &mut Vec<u8>, record: &Record) {
         record.send_start,
         record.send_end,
         record.finish,
+        record.compute_end,
     ];
     text::print(answers, b"chunk", &fields);
 }

@@ -54,10 +54,16 @@ impl Costs {
         units * self.return_cost
     }
 
+    /// When a chunk's node stops computing and its audio begins to come back.
+    #[inline]
+    pub fn compute_end(self, send_end: u64, units: u64) -> u64 {
+        send_end + self.compute_ticks(units)
+    }
+
     /// A chunk has finished when its audio is back.
     #[inline]
     pub fn finish(self, send_end: u64, units: u64) -> u64 {
-        send_end + self.compute_ticks(units) + self.return_ticks(units)
+        self.compute_end(send_end, units) + self.return_ticks(units)
     }
 }
 

@@ -56,16 +56,16 @@ const MIXED_ANSWERS: &str = "open 3 2\n\
     no 8\n\
     yes 2 10 25 1\n\
     yes 3 0 2 1\n\
-    chunk 3 2 1 1 0 1 2\n\
-    chunk 1 1 2 5 2 7 17\n\
-    chunk 1 1 3 3 7 10 16\n\
-    chunk 1 1 1 2 10 12 16\n\
+    chunk 3 2 1 1 0 1 2 2\n\
+    chunk 1 1 2 5 2 7 17 17\n\
+    chunk 1 1 3 3 7 10 16 16\n\
+    chunk 1 1 1 2 10 12 16 16\n\
     clock 2 4\n\
     account 1 30 0\n\
     account 2 2 2\n\
-    chunk 2 2 1 1 17 18 22\n\
-    chunk 2 2 3 1 18 19 23\n\
-    chunk 2 2 2 1 19 20 24\n\
+    chunk 2 2 1 1 17 18 22 22\n\
+    chunk 2 2 3 1 18 19 23 23\n\
+    chunk 2 2 2 1 19 20 24 24\n\
     clock 17 3\n\
     no 8\n\
     yes 4 22 25 1\n\
@@ -157,8 +157,8 @@ fn a_cheaper_p_may_be_refused() {
     check(
         "farm 2 1 4 0 0 0 0\njob 1 2 11\njob 1 2 6 2\njob 1 2 6 3\nclock 5\n",
         "open 2 1\nyes 1 0 10 1\nno 8\nyes 2 0 5 2\n\
-         chunk 2 1 1 1 0 1 4\nchunk 2 1 2 1 1 2 5\n\
-         chunk 1 1 1 1 5 6 10\nchunk 1 1 2 1 6 7 11\nclock 5 4\n",
+         chunk 2 1 1 1 0 1 4 4\nchunk 2 1 2 1 1 2 5 5\n\
+         chunk 1 1 1 1 5 6 10 10\nchunk 1 1 2 1 6 7 11 11\nclock 5 4\n",
     );
 }
 
@@ -236,6 +236,7 @@ fn lines_take_what_the_jobs_own_costs_say() {
             let compute = computes[line.job as usize];
             line.send_end == line.send_start + costs.link_setup + line.units * costs.send
                 && line.finish == line.send_end + costs.node_setup + line.units * compute
+                && line.compute_end == line.finish
         }));
         if offer % 4 == 0 {
             let time = farm.clock() + 60;

@@ -51,7 +51,10 @@ fn held_ticks_fill_all_nodes_at(costs: Costs) {
     assert!(granted > 20, "only {granted} jobs granted");
     let mut lines = [Record::default(); LENT_RECORDS];
     let issued = farm.move_clock(LAST_TICK, &mut lines).unwrap();
-    assert!(lines[..issued].iter().all(|line| line.finish <= LAST_TICK));
+    assert!(lines[..issued].iter().all(|line| {
+        let way_back = line.units * costs.return_cost;
+        line.finish <= LAST_TICK && line.compute_end + way_back == line.finish
+    }));
     let account = farm.account(1).unwrap();
     assert!(account.held > 30 * LAST_TICK && account.held <= 64 * LAST_TICK);
     assert_eq!(account.charged, account.held - 7);

@@ -44,7 +44,7 @@ fn a_chunk_holds_its_node_from_its_own_send() {
             &format!("farm 3 1 2 3 5 4 {allowance}\njob 1 4 26\naccount 1\nclock 0\naccount 1\n"),
             &format!(
                 "open 3 1\nyes 1 0 24 3\naccount 1 0 0\n\
-                 chunk 1 1 1 2 0 5 22\nchunk 1 1 2 1 5 9 20\nchunk 1 1 3 1 9 13 24\n\
+                 chunk 1 1 1 2 0 5 22 14\nchunk 1 1 2 1 5 9 20 16\nchunk 1 1 3 1 9 13 24 20\n\
                  clock 0 3\naccount 1 52 {charged}\n"
             ),
         );
@@ -70,8 +70,8 @@ fn a_job_of_its_own_cost_holds_less() {
     check_both(
         "farm 2 1 4 1 2 3 24 24\njob 1 3 20 2\njob 2 3 38\nclock 15\naccount 1\naccount 2\n",
         "open 2 2\nyes 1 0 15 2\nyes 2 15 34 2\n\
-         chunk 1 1 1 2 0 3 15\nchunk 1 1 2 1 3 5 12\n\
-         chunk 2 2 2 2 15 18 34\nchunk 2 2 1 1 18 20 29\nclock 15 4\n\
+         chunk 1 1 1 2 0 3 15 9\nchunk 1 1 2 1 3 5 12 9\n\
+         chunk 2 2 2 2 15 18 34 28\nchunk 2 2 1 1 18 20 29 26\nclock 15 4\n\
          account 1 24 0\naccount 2 30 6\n",
     );
 }
@@ -84,10 +84,10 @@ fn equal_jobs_hold_the_same_on_any_number_of_nodes() {
     check_both(
         "farm 3 1 2 0 0 0 30 30 30\njob 1 10 30\nclock 30\njob 2 10 48\nclock 48\n\
          job 3 10 65\nclock 48\naccount 1\naccount 2\naccount 3\n",
-        "open 3 3\nyes 1 0 30 1\nchunk 1 1 1 10 0 10 30\nclock 30 1\n\
-         yes 2 30 48 2\nchunk 2 2 2 6 30 36 48\nchunk 2 2 3 4 36 40 48\nclock 48 2\n\
-         yes 3 48 63 3\nchunk 3 3 1 5 48 53 63\nchunk 3 3 2 3 53 56 62\n\
-         chunk 3 3 3 2 56 58 62\nclock 48 3\n\
+        "open 3 3\nyes 1 0 30 1\nchunk 1 1 1 10 0 10 30 30\nclock 30 1\n\
+         yes 2 30 48 2\nchunk 2 2 2 6 30 36 48 48\nchunk 2 2 3 4 36 40 48 48\nclock 48 2\n\
+         yes 3 48 63 3\nchunk 3 3 1 5 48 53 63 63\nchunk 3 3 2 3 53 56 62 62\n\
+         chunk 3 3 3 2 56 58 62 62\nclock 48 3\n\
          account 1 30 0\naccount 2 30 0\naccount 3 30 0\n",
     );
 }
@@ -99,8 +99,8 @@ fn a_node_more_adds_its_setups() {
     check_both(
         "farm 3 1 2 2 1 0 12 12\njob 1 3 12\nclock 12\njob 2 3 22\nclock 12\n\
          account 1\naccount 2\n",
-        "open 3 2\nyes 1 0 12 1\nchunk 1 1 1 3 0 5 12\nclock 12 1\n\
-         yes 2 12 22 2\nchunk 2 2 2 2 12 16 21\nchunk 2 2 3 1 16 19 22\nclock 12 2\n\
+        "open 3 2\nyes 1 0 12 1\nchunk 1 1 1 3 0 5 12 12\nclock 12 1\n\
+         yes 2 12 22 2\nchunk 2 2 2 2 12 16 21 21\nchunk 2 2 3 1 16 19 22 22\nclock 12 2\n\
          account 1 12 0\naccount 2 15 3\n",
     );
 }
@@ -112,8 +112,8 @@ fn a_node_more_adds_its_setups() {
 fn the_first_send_starts_with_its_job() {
     let day = "job 1 10 18\njob 2 10 36\nclock 18\naccount 1\naccount 2\n";
     let lines = "yes 1 0 18 2\nyes 2 18 36 2\n\
-        chunk 1 1 1 6 0 6 18\nchunk 1 1 2 4 6 10 18\n\
-        chunk 2 2 1 6 18 24 36\nchunk 2 2 2 4 24 28 36\nclock 18 4\n";
+        chunk 1 1 1 6 0 6 18 18\nchunk 1 1 2 4 6 10 18 18\n\
+        chunk 2 2 1 6 18 24 36 36\nchunk 2 2 2 4 24 28 36 36\nclock 18 4\n";
     check_both(
         &format!("farm 2 1 2 0 0 0 30 29\n{day}"),
         &format!("open 2 2\n{lines}account 1 30 0\naccount 2 30 1\n"),
@@ -127,8 +127,8 @@ fn held_ticks_add_up_over_moves() {
         "farm 2 1 2 0 0 0 30\njob 1 10 18\njob 1 10 36\nclock 17\naccount 1\n\
          clock 18\naccount 1\nclock 36\naccount 1\n",
         "open 2 1\nyes 1 0 18 2\nyes 2 18 36 2\n\
-         chunk 1 1 1 6 0 6 18\nchunk 1 1 2 4 6 10 18\nclock 17 2\naccount 1 30 0\n\
-         chunk 2 1 1 6 18 24 36\nchunk 2 1 2 4 24 28 36\nclock 18 2\naccount 1 60 30\n\
+         chunk 1 1 1 6 0 6 18 18\nchunk 1 1 2 4 6 10 18 18\nclock 17 2\naccount 1 30 0\n\
+         chunk 2 1 1 6 18 24 36 36\nchunk 2 1 2 4 24 28 36 36\nclock 18 2\naccount 1 60 30\n\
          clock 36 0\naccount 1 60 30\n",
     );
 }
@@ -148,7 +148,7 @@ fn a_node_that_waits_for_its_send_is_not_free() {
         "farm 2 1 2 0 0 0 0\njob 1 10 20\nquote 1 1 3\njob 1 1 3\nquote 1 1 20\n\
          job 1 1 21\nclock 18\naccount 1\n",
         "open 2 1\nyes 1 0 18 2\nno 8\nno 8\nno 8\nyes 2 18 21 1\n\
-         chunk 1 1 1 6 0 6 18\nchunk 1 1 2 4 6 10 18\nchunk 2 1 1 1 18 19 21\nclock 18 3\n\
+         chunk 1 1 1 6 0 6 18 18\nchunk 1 1 2 4 6 10 18 18\nchunk 2 1 1 1 18 19 21 21\nclock 18 3\n\
          account 1 33 33\n",
     );
 }
@@ -159,15 +159,15 @@ fn a_node_that_waits_for_its_send_is_not_free() {
 fn a_job_waits_for_the_node_of_its_last_chunk() {
     check_both(
         "farm 2 1 2 0 0 0 33\njob 1 1 3\njob 1 10 20\njob 1 10 21\nclock 3\naccount 1\n",
-        "open 2 1\nyes 1 0 3 1\nno 8\nyes 2 3 21 2\nchunk 1 1 1 1 0 1 3\n\
-         chunk 2 1 2 6 3 9 21\nchunk 2 1 1 4 9 13 21\nclock 3 3\naccount 1 33 0\n",
+        "open 2 1\nyes 1 0 3 1\nno 8\nyes 2 3 21 2\nchunk 1 1 1 1 0 1 3 3\n\
+         chunk 2 1 2 6 3 9 21 21\nchunk 2 1 1 4 9 13 21 21\nclock 3 3\naccount 1 33 0\n",
     );
     check_both(
         "farm 2 1 2 0 0 0 33\njob 1 1 3\nclock 1\naccount 1\njob 1 10 20\njob 1 10 21\n\
          clock 3\naccount 1\n",
-        "open 2 1\nyes 1 0 3 1\nchunk 1 1 1 1 0 1 3\nclock 1 1\naccount 1 3 0\n\
+        "open 2 1\nyes 1 0 3 1\nchunk 1 1 1 1 0 1 3 3\nclock 1 1\naccount 1 3 0\n\
          no 8\nyes 2 3 21 2\n\
-         chunk 2 1 2 6 3 9 21\nchunk 2 1 1 4 9 13 21\nclock 3 2\naccount 1 33 0\n",
+         chunk 2 1 2 6 3 9 21 21\nchunk 2 1 1 4 9 13 21 21\nclock 3 2\naccount 1 33 0\n",
     );
 }
 
@@ -180,7 +180,7 @@ fn a_withdrawn_job_holds_nothing() {
         "farm 3 1 2 0 0 0 0 0\njob 1 10 18\njob 2 10 38\nquote 1 10 100\nwithdraw 1\n\
          clock 18\naccount 1\naccount 2\n",
         "open 3 2\nyes 1 0 18 2\nyes 2 18 36 2\nquote 3 28 58 1\ngone 1\n\
-         chunk 2 2 3 6 18 24 36\nchunk 2 2 1 4 24 28 36\nclock 18 2\n\
+         chunk 2 2 3 6 18 24 36 36\nchunk 2 2 1 4 24 28 36 36\nclock 18 2\n\
          account 1 0 0\naccount 2 30 30\n",
     );
 }

@@ -14,8 +14,9 @@ const LISTING: &str = "farm 3 1 2 0 0 0 30 0\njob 1 10 18\njob 2 3 20\njob 2 2 1
     clock 10\naccount 1\naccount 2\n";
 
 /// By request (vi) show 1 holds 18 and 18 - 6, just its 30.
+/// By (vii) a chunk's last number is its end of computing, with r = 0 its finish.
 const LISTING_ANSWERS: &str = "open 3 2\nyes 1 0 18 2\nyes 2 10 19 1\nno 8\n\
-    chunk 1 1 1 6 0 6 18\nchunk 1 1 2 4 6 10 18\nchunk 2 2 3 3 10 13 19\n\
+    chunk 1 1 1 6 0 6 18 18\nchunk 1 1 2 4 6 10 18 18\nchunk 2 2 3 3 10 13 19 19\n\
     clock 10 3\naccount 1 30 0\naccount 2 9 9\n";
 
 #[test]

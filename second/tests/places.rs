@@ -27,8 +27,8 @@ const DAY: [&str; 8] = [
 ];
 
 const DAY_ANSWERS: &str = "open 3 2\nquote 1 0 18 2\nyes 1 0 18 2\nyes 2 10 19 1\n\
-    yes 3 18 22 1\ngone 3\nchunk 1 1 1 6 0 6 18\nchunk 1 1 2 4 6 10 18\n\
-    chunk 2 2 3 3 10 13 19\nclock 10 3\naccount 1 30 0\n";
+    yes 3 18 22 1\ngone 3\nchunk 1 1 1 6 0 6 18 18\nchunk 1 1 2 4 6 10 18 18\n\
+    chunk 2 2 3 3 10 13 19 19\nclock 10 3\naccount 1 30 0\n";
 
 /// A number with zeros in front, so that it has so many digits at least.
 fn padded(number: &str, digits: usize) -> String {

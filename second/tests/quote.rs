@@ -50,9 +50,9 @@ const LISTING_ANSWERS: &str = "open 3 2\n\
     no 8\n\
     no 8\n\
     no 8\n\
-    chunk 1 1 1 6 0 6 18\n\
-    chunk 1 1 2 4 6 10 18\n\
-    chunk 2 2 3 3 10 13 19\n\
+    chunk 1 1 1 6 0 6 18 18\n\
+    chunk 1 1 2 4 6 10 18 18\n\
+    chunk 2 2 3 3 10 13 19 19\n\
     clock 10 3\n\
     no 6\n\
     account 1 30 0\n\
@@ -76,7 +76,7 @@ fn a_quote_moves_no_booking() {
         "farm 2 1 2 0 0 0 0\njob 1 3 9\nquote 1 2 6\nquote 1 2 9\nquote 1 1 3\n\
          clock 0\naccount 1\n",
         "open 2 1\nyes 1 0 9 1\nno 8\nquote 2 3 9 1\nquote 2 0 3 1\n\
-         chunk 1 1 1 3 0 3 9\nclock 0 1\naccount 1 9 9\n",
+         chunk 1 1 1 3 0 3 9 9\nclock 0 1\naccount 1 9 9\n",
     );
 }
 
@@ -94,8 +94,8 @@ fn a_later_deadline_may_be_refused() {
          quote 1 2 6\nquote 1 2 7\njob 1 2 6\njob 1 2 3\nclock 3\n",
         "open 2 1\nyes 1 0 6 1\nno 8\nquote 2 0 3 2\nno 8\n\
          no 8\nquote 2 3 7 1\nno 8\nyes 2 0 3 2\n\
-         chunk 2 1 1 1 0 1 2\nchunk 2 1 2 1 1 2 3\n\
-         chunk 1 1 1 2 3 5 7\nchunk 1 1 2 1 5 6 7\nclock 3 4\n",
+         chunk 2 1 1 1 0 1 2 2\nchunk 2 1 2 1 1 2 3 3\n\
+         chunk 1 1 1 2 3 5 7 7\nchunk 1 1 2 1 5 6 7 7\nclock 3 4\n",
     );
 }
 
@@ -108,8 +108,8 @@ fn a_quote_takes_an_own_p() {
          quote 1 2 6 1000001\nquote 1 1 12\nquote 1 1 12 4\njob 1 2 6 3\nclock 5\n",
         "open 2 1\nyes 1 0 10 1\nno 8\nquote 2 0 5 2\nno 2\n\
          no 2\nquote 2 2 7 1\nquote 2 2 7 1\nyes 2 0 5 2\n\
-         chunk 2 1 1 1 0 1 4\nchunk 2 1 2 1 1 2 5\n\
-         chunk 1 1 1 1 5 6 10\nchunk 1 1 2 1 6 7 11\nclock 5 4\n",
+         chunk 2 1 1 1 0 1 4 4\nchunk 2 1 2 1 1 2 5 5\n\
+         chunk 1 1 1 1 5 6 10 10\nchunk 1 1 2 1 6 7 11 11\nclock 5 4\n",
     );
 }
 
@@ -121,7 +121,7 @@ fn a_quote_uses_no_number() {
          quote 1 1 9\nquote 1 1 3\nclock 0\nquote 1 1 9\nwithdraw 2\njob 1 1 9\n\
          withdraw 2\nquote 1 1 9\njob 1 1 9\n",
         "open 1 1\nquote 1 0 2 1\nquote 1 0 2 1\nno 12\nyes 1 0 2 1\n\
-         quote 2 2 4 1\nquote 2 0 2 1\nchunk 1 1 1 1 0 1 2\nclock 0 1\nquote 2 2 4 1\nno 12\n\
+         quote 2 2 4 1\nquote 2 0 2 1\nchunk 1 1 1 1 0 1 2 2\nclock 0 1\nquote 2 2 4 1\nno 12\n\
          yes 2 2 4 1\ngone 2\nquote 3 2 4 1\nyes 3 2 4 1\n",
     );
 }
@@ -134,11 +134,14 @@ fn a_quote_behind_a_withdrawal_moves_nothing() {
     let answers = "open 3 2\nyes 1 0 18 2\nyes 2 10 19 1\ngone 1\nquote 3 0 6 1\n";
     check(
         &format!("{lines}quote 2 2 12\nclock 9\nclock 10\n"),
-        &format!("{answers}quote 3 0 6 1\nclock 9 0\nchunk 2 2 3 3 10 13 19\nclock 10 1\n"),
+        &format!("{answers}quote 3 0 6 1\nclock 9 0\nchunk 2 2 3 3 10 13 19 19\nclock 10 1\n"),
     );
     check(
         &format!("{lines}job 2 2 12\nclock 10\n"),
-        &format!("{answers}yes 3 0 6 1\nchunk 3 2 1 2 0 2 6\nchunk 2 2 2 3 2 5 11\nclock 10 2\n"),
+        &format!(
+            "{answers}yes 3 0 6 1\n\
+             chunk 3 2 1 2 0 2 6 6\nchunk 2 2 2 3 2 5 11 11\nclock 10 2\n"
+        ),
     );
 }
 
@@ -152,8 +155,8 @@ fn a_quote_is_refused_where_an_old_job_fails() {
          clock 9\nquote 1 1 1000\njob 1 1 1000\n",
         "open 2 1\nyes 1 0 2 1\nyes 2 2 9 2\nyes 3 9 20 2\nquote 4 19 21 1\n\
          gone 1\nno 8\nno 8\n\
-         chunk 2 1 2 3 2 5 8\nchunk 2 1 1 2 5 7 9\nclock 2 2\nquote 4 19 21 1\n\
-         chunk 3 1 2 5 9 14 19\nchunk 3 1 1 3 14 17 20\nclock 9 2\n\
+         chunk 2 1 2 3 2 5 8 8\nchunk 2 1 1 2 5 7 9 9\nclock 2 2\nquote 4 19 21 1\n\
+         chunk 3 1 2 5 9 14 19 19\nchunk 3 1 1 3 14 17 20 20\nclock 9 2\n\
          quote 4 19 21 1\nyes 4 19 21 1\n",
     );
 }

@@ -29,7 +29,8 @@ const LISTING: &str = "farm 3 1 2 0 0 1 30 0\n\
 /// 10 units by 18: 18 ticks hold 4, the 14 left 3 and the 11 left 2, one too few.
 /// Without the way back two nodes would do, case C. By 20: two nodes hold 5 + 3,
 /// three hold 5 + 3 + 3. 19 ticks hold 4 + 3 + 3 and 18 only 9, so the sends end at
-/// 4, 7 and 10 and the audio is back at 4 + 12 = 16, 7 + 9 = 16 and 10 + 9 = 19.
+/// 4, 7 and 10, computing at 4 + 8 = 12, 7 + 6 = 13 and 10 + 6 = 16, and the audio is
+/// back at 12 + 4 = 16, 13 + 3 = 16 and 16 + 3 = 19.
 ///
 /// Job 2, 3 units by 30, waits for node 1 until 16: its send ends at 19, computing
 /// at 25, and the audio is back at 28.
@@ -42,10 +43,10 @@ const LISTING_ANSWERS: &str = "open 3 2\n\
     yes 1 0 19 3\n\
     yes 2 16 28 1\n\
     no 8\n\
-    chunk 1 1 1 4 0 4 16\n\
-    chunk 1 1 2 3 4 7 16\n\
-    chunk 1 1 3 3 7 10 19\n\
-    chunk 2 2 1 3 16 19 28\n\
+    chunk 1 1 1 4 0 4 16 12\n\
+    chunk 1 1 2 3 4 7 16 13\n\
+    chunk 1 1 3 3 7 10 19 16\n\
+    chunk 2 2 1 3 16 19 28 25\n\
     clock 16 4\n\
     account 1 40 10\n\
     account 2 12 12\n";
@@ -71,13 +72,13 @@ fn audio_comes_back_beside_the_link() {
         "farm 2 1 1 0 0 100 0\njob 1 1 102\njob 1 1 103\njob 1 1 204\njob 1 1 300\n\
          clock 0\nclock 1\n",
         "open 2 1\nyes 1 0 102 1\nyes 2 1 103 1\nyes 3 102 204 1\nyes 4 103 205 1\n\
-         chunk 1 1 1 1 0 1 102\nclock 0 1\nchunk 2 1 2 1 1 2 103\nclock 1 1\n",
+         chunk 1 1 1 1 0 1 102 2\nclock 0 1\nchunk 2 1 2 1 1 2 103 3\nclock 1 1\n",
     );
     // The same for two chunks of one job.
     check(
         "farm 2 1 1 0 0 100 0\njob 1 2 102\njob 1 2 103\nclock 0\n",
         "open 2 1\nno 8\nyes 1 0 103 2\n\
-         chunk 1 1 1 1 0 1 102\nchunk 1 1 2 1 1 2 103\nclock 0 2\n",
+         chunk 1 1 1 1 0 1 102 2\nchunk 1 1 2 1 1 2 103 3\nclock 0 2\n",
     );
 }
 
@@ -86,7 +87,7 @@ fn audio_comes_back_beside_the_link() {
 fn r_counts_once_a_unit() {
     check(
         "farm 1 2 3 10 20 5 0\njob 1 4 69\njob 1 4 70\nclock 0\naccount 1\n",
-        "open 1 1\nno 8\nyes 1 0 70 1\nchunk 1 1 1 4 0 18 70\nclock 0 1\naccount 1 70 70\n",
+        "open 1 1\nno 8\nyes 1 0 70 1\nchunk 1 1 1 4 0 18 70 50\nclock 0 1\naccount 1 70 70\n",
     );
 }
 
@@ -98,9 +99,9 @@ fn free_times_and_held_ticks_include_the_way_back() {
         "farm 1 1 1 0 0 2 10\njob 1 1 4\njob 1 1 7\njob 1 1 8\nclock 3\naccount 1\n\
          clock 4\naccount 1\njob 1 1 11\njob 1 1 12\nclock 8\naccount 1\n",
         "open 1 1\nyes 1 0 4 1\nno 8\nyes 2 4 8 1\n\
-         chunk 1 1 1 1 0 1 4\nclock 3 1\naccount 1 4 0\n\
-         chunk 2 1 1 1 4 5 8\nclock 4 1\naccount 1 8 0\n\
-         no 8\nyes 3 8 12 1\nchunk 3 1 1 1 8 9 12\nclock 8 1\naccount 1 12 2\n",
+         chunk 1 1 1 1 0 1 4 2\nclock 3 1\naccount 1 4 0\n\
+         chunk 2 1 1 1 4 5 8 6\nclock 4 1\naccount 1 8 0\n\
+         no 8\nyes 3 8 12 1\nchunk 3 1 1 1 8 9 12 10\nclock 8 1\naccount 1 12 2\n",
     );
 }
 
@@ -112,7 +113,7 @@ fn own_compute_costs_have_the_farms_way_back() {
         "farm 1 1 4 0 0 3 0\njob 1 2 11 2\njob 1 2 12 2\njob 1 2 27\njob 1 2 28\n\
          job 1 1 28 0\nclock 12\naccount 1\n",
         "open 1 1\nno 8\nyes 1 0 12 1\nno 8\nyes 2 12 28 1\n\
-         no 2\nchunk 1 1 1 2 0 2 12\nchunk 2 1 1 2 12 14 28\nclock 12 2\naccount 1 28 28\n",
+         no 2\nchunk 1 1 1 2 0 2 12 6\nchunk 2 1 1 2 12 14 28 22\nclock 12 2\naccount 1 28 28\n",
     );
 }
 
@@ -133,15 +134,15 @@ fn an_old_job_fails_because_of_the_way_back() {
     check(
         &format!("farm 2 1 1 0 0 1 0\n{lines}account 1\n"),
         "open 2 1\nyes 1 0 3 1\nyes 2 3 11 2\nyes 3 11 24 2\ngone 1\nno 8\n\
-         chunk 2 1 2 2 3 5 9\nchunk 2 1 1 2 5 7 11\n\
-         chunk 3 1 2 4 11 15 23\nchunk 3 1 1 3 15 18 24\nclock 11 4\n\
+         chunk 2 1 2 2 3 5 9 7\nchunk 2 1 1 2 5 7 11 9\n\
+         chunk 3 1 2 4 11 15 23 19\nchunk 3 1 1 3 15 18 24 21\nclock 11 4\n\
          account 1 33 33\n",
     );
     // With r = 0 each job takes one node, and the offer is taken.
     check(
         &format!("farm 2 1 1 0 0 0 0\n{lines}"),
         "open 2 1\nyes 1 0 2 1\nyes 2 1 9 1\nyes 3 5 19 1\ngone 1\nyes 4 11 13 1\n\
-         chunk 2 1 1 4 0 4 8\nchunk 3 1 2 7 4 11 18\nchunk 4 1 1 1 11 12 13\nclock 11 3\n",
+         chunk 2 1 1 4 0 4 8 8\nchunk 3 1 2 7 4 11 18 18\nchunk 4 1 1 1 11 12 13 13\nclock 11 3\n",
     );
 }
 
@@ -152,7 +153,7 @@ fn p_has_its_limits_without_r() {
         "farm 1 1 1000000 0 0 10000 0\njob 1 1 1010000\njob 1 1 1010001\nclock 0\n\
          job 1 1 2020001 1000000\njob 1 1 2020002 1000000\njob 1 1 9999999 1000001\n\
          job 1 1 9999999 990001\n",
-        "open 1 1\nno 8\nyes 1 0 1010001 1\nchunk 1 1 1 1 0 1 1010001\nclock 0 1\n\
+        "open 1 1\nno 8\nyes 1 0 1010001 1\nchunk 1 1 1 1 0 1 1010001 1000001\nclock 0 1\n\
          no 8\nyes 2 1010001 2020002 1\nno 2\nyes 3 2020002 3020004 1\n",
     );
 }
@@ -161,8 +162,9 @@ fn p_has_its_limits_without_r() {
 /// 502,464 * 1,020,000 = 512,515,280,000. The second send ends at 2,000,000 +
 /// 1,000,000 * 10,000, its audio is back 1,000,000 + 497,536 * 1,010,000 later, at
 /// 512,514,360,000. With one unit less on the first the second ends at
-/// 512,515,370,000. The chunks hold twice the setups and the units' ticks: 4,000,000 +
-/// 1,000,000 * 1,020,000.
+/// 512,515,370,000. Computing ends 502,464 * 10,000 = 5,024,640,000 before the first
+/// finish and 4,975,360,000 before the second. The chunks hold twice the setups and the
+/// units' ticks: 4,000,000 + 1,000,000 * 1,020,000.
 ///
 /// One node holds 980,390 units in the 10^12 ticks: 2,000,000 + 980,390 *
 /// 1,020,000 = 999,999,800,000. For one unit more two nodes are needed; the first
@@ -173,8 +175,8 @@ fn the_greatest_figures() {
     check(
         &format!("{farm}job 1 1000000 1000000000000\nclock 0\naccount 1\n"),
         "open 2 1\nyes 1 0 512515280000 2\n\
-         chunk 1 1 1 502464 0 5025640000 512515280000\n\
-         chunk 1 1 2 497536 5025640000 10002000000 512514360000\nclock 0 2\n\
+         chunk 1 1 1 502464 0 5025640000 512515280000 507490640000\n\
+         chunk 1 1 2 497536 5025640000 10002000000 512514360000 507539000000\nclock 0 2\n\
          account 1 1020004000000 20004000000\n",
     );
     check(
@@ -247,7 +249,9 @@ fn lines_take_what_the_costs_say() {
         assert!(lines[..count].iter().all(|line| {
             let send_end = line.send_start + 2 + line.units * 3;
             let compute_end = send_end + 5 + line.units * computes[line.job as usize];
-            line.send_end == send_end && line.finish == compute_end + line.units * 11
+            line.send_end == send_end
+                && line.compute_end == compute_end
+                && line.finish == compute_end + line.units * 11
         }));
         if offer % 4 == 0 {
             let time = farm.clock() + 80;
@@ -293,9 +297,9 @@ fn with_return(day: &[u8], return_cost: u64) -> Option<Vec<u8>> {
 }
 
 /// The day and the same with r = 0 and every p dearer by r, both without the
-/// offers and quotes whose p would be too dear; none if the farm's would be, or r
-/// is 0.
-fn with_dearer_compute(day: &[u8]) -> Option<(Vec<u8>, Vec<u8>)> {
+/// offers and quotes whose p would be too dear, and r; none if the farm's p would be
+/// too dear, or r is 0.
+fn with_dearer_compute(day: &[u8]) -> Option<(Vec<u8>, Vec<u8>, u64)> {
     let (lines, opening) = lines_and_opening(day);
     let opening = opening?;
     let (_, mut numbers) = read(&lines[opening]);
@@ -324,19 +328,36 @@ fn with_dearer_compute(day: &[u8]) -> Option<(Vec<u8>, Vec<u8>)> {
             }
         }
     }
-    Some((kept.join(&b'\n'), dearer.join(&b'\n')))
+    Some((kept.join(&b'\n'), dearer.join(&b'\n'), return_cost))
 }
 
 fn is_compute_cost(ticks: u64) -> bool {
     (1..=MOST_COMPUTE_COST).contains(&ticks)
 }
 
+/// The answers to a day with each chunk's way back counted as computing.
+fn answers_with_way_back_computed(day: &[u8], return_cost: u64) -> Vec<u8> {
+    let given = answers(day);
+    let lines = given
+        .split(|&byte| byte == b'\n')
+        .map(|line| match read(line) {
+            (b"chunk", mut numbers) => {
+                numbers[7] += numbers[3] * return_cost;
+                write(b"chunk", &numbers)
+            }
+            _ => line.to_vec(),
+        });
+    lines.collect::<Vec<_>>().join(&b'\n')
+}
+
+/// Only the end of computing tells them apart: a dearer p moves it to the finish.
 #[test]
 fn r_is_answered_as_a_dearer_p() {
     let mut compared = 0;
     for day in (0..120).map(day).chain((0..120).map(tiny_day)) {
-        if let Some((kept, dearer)) = with_dearer_compute(&day) {
-            assert!(answers(&kept) == answers(&dearer), "{}", day.escape_ascii());
+        if let Some((kept, dearer, return_cost)) = with_dearer_compute(&day) {
+            let expected = answers_with_way_back_computed(&kept, return_cost);
+            assert!(expected == answers(&dearer), "{}", day.escape_ascii());
             compared += 1;
         }
     }

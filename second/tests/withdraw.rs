@@ -39,8 +39,8 @@ const FREED_ANSWERS: &str = "open 3 2\n\
     gone 1\n\
     no 12\n\
     yes 3 0 6 1\n\
-    chunk 3 2 1 2 0 2 6\n\
-    chunk 2 2 2 3 2 5 11\n\
+    chunk 3 2 1 2 0 2 6 6\n\
+    chunk 2 2 2 3 2 5 11 11\n\
     clock 10 2\n\
     no 12\n\
     no 12\n\
@@ -60,8 +60,8 @@ fn window_m_fits_once_job_2_is_gone() {
         "farm 3 1 2 0 0 0 30 0\njob 1 10 18\njob 2 3 20\njob 2 2 21\n\
          withdraw 2\njob 2 2 21\nclock 10\n",
         "open 3 2\nyes 1 0 18 2\nyes 2 10 19 1\nno 8\n\
-         gone 2\nyes 3 10 16 1\nchunk 1 1 1 6 0 6 18\nchunk 1 1 2 4 6 10 18\n\
-         chunk 3 2 3 2 10 12 16\nclock 10 3\n",
+         gone 2\nyes 3 10 16 1\nchunk 1 1 1 6 0 6 18 18\nchunk 1 1 2 4 6 10 18 18\n\
+         chunk 3 2 3 2 10 12 16 16\nclock 10 3\n",
     );
 }
 
@@ -73,7 +73,7 @@ fn the_others_keep_start_nodes_and_shares() {
         "farm 3 1 2 0 0 0 30 0\njob 1 10 18\njob 2 3 20\nwithdraw 1\n\
          job 2 1000 20\nclock 9\nclock 10\naccount 1\naccount 2\n",
         "open 3 2\nyes 1 0 18 2\nyes 2 10 19 1\ngone 1\nno 8\n\
-         clock 9 0\nchunk 2 2 3 3 10 13 19\nclock 10 1\n\
+         clock 9 0\nchunk 2 2 3 3 10 13 19 19\nclock 10 1\n\
          account 1 0 0\naccount 2 9 9\n",
     );
 }
@@ -85,8 +85,8 @@ fn a_job_amid_the_plan_is_withdrawn() {
         "farm 3 1 2 0 0 0 30 0\njob 1 10 18\njob 2 3 20\njob 2 2 22\n\
          withdraw 2\nclock 18\n",
         "open 3 2\nyes 1 0 18 2\nyes 2 10 19 1\nyes 3 18 22 2\n\
-         gone 2\nchunk 1 1 1 6 0 6 18\nchunk 1 1 2 4 6 10 18\n\
-         chunk 3 2 1 1 18 19 21\nchunk 3 2 2 1 19 20 22\nclock 18 4\n",
+         gone 2\nchunk 1 1 1 6 0 6 18 18\nchunk 1 1 2 4 6 10 18 18\n\
+         chunk 3 2 1 1 18 19 21 21\nchunk 3 2 2 1 19 20 22 22\nclock 18 4\n",
     );
 }
 
@@ -114,8 +114,8 @@ fn an_old_job_fails_in_the_next_walk() {
         &format!("{NEEDED}withdraw 1\njob 1 1 1000000000000\nclock 9\naccount 1\n"),
         &format!(
             "{NEEDED_ANSWERS}gone 1\nno 8\n\
-             chunk 2 1 2 3 2 5 8\nchunk 2 1 1 2 5 7 9\n\
-             chunk 3 1 2 5 9 14 19\nchunk 3 1 1 3 14 17 20\nclock 9 4\n\
+             chunk 2 1 2 3 2 5 8 8\nchunk 2 1 1 2 5 7 9 9\n\
+             chunk 3 1 2 5 9 14 19 19\nchunk 3 1 1 3 14 17 20 20\nclock 9 4\n\
              account 1 26 26\n"
         ),
     );
@@ -129,10 +129,10 @@ fn offers_are_taken_again_once_the_old_job_fits() {
         &format!("{NEEDED}withdraw 1\njob 1 1 1000\nclock 2\njob 1 1 1000\nclock 19\n"),
         &format!(
             "{NEEDED_ANSWERS}gone 1\nno 8\n\
-             chunk 2 1 2 3 2 5 8\nchunk 2 1 1 2 5 7 9\nclock 2 2\n\
+             chunk 2 1 2 3 2 5 8 8\nchunk 2 1 1 2 5 7 9 9\nclock 2 2\n\
              yes 4 19 21 1\n\
-             chunk 3 1 2 5 9 14 19\nchunk 3 1 1 3 14 17 20\n\
-             chunk 4 1 2 1 19 20 21\nclock 19 3\n"
+             chunk 3 1 2 5 9 14 19 19\nchunk 3 1 1 3 14 17 20 20\n\
+             chunk 4 1 2 1 19 20 21 21\nclock 19 3\n"
         ),
     );
     check(
@@ -148,7 +148,7 @@ fn offers_are_taken_again_once_the_old_job_is_gone() {
         &format!("{NEEDED}withdraw 1\njob 1 1 1000\nwithdraw 3\njob 1 1 1000\nclock 5\n"),
         &format!(
             "{NEEDED_ANSWERS}gone 1\nno 8\ngone 3\nyes 4 5 7 1\n\
-             chunk 2 1 1 5 0 5 10\nchunk 4 1 2 1 5 6 7\nclock 5 2\n"
+             chunk 2 1 1 5 0 5 10 10\nchunk 4 1 2 1 5 6 7 7\nclock 5 2\n"
         ),
     );
 }
@@ -160,7 +160,7 @@ fn only_a_waiting_job_is_withdrawn() {
          withdraw 9999999999999\nclock 0\nwithdraw 1\njob 1 1 9\nwithdraw 02\n\
          withdraw 2\nwithdraw 0\n",
         "open 1 1\nno 12\nno 12\nyes 1 0 2 1\nno 12\n\
-         no 12\nchunk 1 1 1 1 0 1 2\nclock 0 1\nno 12\nyes 2 2 4 1\ngone 2\n\
+         no 12\nchunk 1 1 1 1 0 1 2 2\nclock 0 1\nno 12\nyes 2 2 4 1\ngone 2\n\
          no 12\nno 12\n",
     );
 }
@@ -172,7 +172,7 @@ fn a_number_is_used_once() {
          job 1 1 9\nwithdraw 2\njob 1 1 9\nclock 9\n",
         "open 1 1\nyes 1 0 2 1\ngone 1\nyes 2 0 2 1\nno 12\n\
          yes 3 2 4 1\ngone 2\nyes 4 2 4 1\n\
-         chunk 3 1 1 1 0 1 2\nchunk 4 1 1 1 2 3 4\nclock 9 2\n",
+         chunk 3 1 1 1 0 1 2 2\nchunk 4 1 1 1 2 3 4 4\nclock 9 2\n",
     );
 }
 
@@ -184,7 +184,7 @@ fn a_withdrawal_needs_a_farm_and_one_number() {
          withdraw 00000000000001\nwithdraw x\nclock 0\n",
         "no 11\nno 11\nno 1\nno 11\nopen 1 1\n\
          yes 1 0 2 1\nno 11\nno 11\nno 11\nno 11\n\
-         no 11\nno 11\nchunk 1 1 1 1 0 1 2\nclock 0 1\n",
+         no 11\nno 11\nchunk 1 1 1 1 0 1 2 2\nclock 0 1\n",
     );
 }
 
@@ -224,7 +224,7 @@ fn a_withdrawal_makes_room_in_a_full_queue() {
 fn the_exhaustive_walk_answers_alike() {
     let needed = format!("{NEEDED}withdraw 1\njob 1 1 1000\nclock 2\njob 1 1 1000\n");
     let needed_answers = format!(
-        "{NEEDED_ANSWERS}gone 1\nno 8\nchunk 2 1 2 3 2 5 8\nchunk 2 1 1 2 5 7 9\n\
+        "{NEEDED_ANSWERS}gone 1\nno 8\nchunk 2 1 2 3 2 5 8 8\nchunk 2 1 1 2 5 7 9 9\n\
          clock 2 2\nyes 4 19 21 1\n"
     );
     for (day, expected) in [(FREED, FREED_ANSWERS), (&needed, &needed_answers)] {

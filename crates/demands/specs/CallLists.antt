@@ -13,6 +13,7 @@ use Rattle.limits.specs.declared.FarmCosts.{FarmCosts}
 use Rattle.shares.specs.Model.{sendEnd, chunkFinish}
 use Rattle.walk.specs.declared.Job.{Job}
 use Rattle.walk.specs.declared.Chunk.{Chunk}
+use Rattle.walk.specs.EndOfComputing.{Computes}
 use Rattle.planner.specs.declared.Farm.{Farm}
 use Rattle.answers.specs.declared.Offer.{Offer}
 use Rattle.planner.specs.Model.{costsFor, Span, linesOf, waitingOf}
@@ -193,14 +194,15 @@ acceptedOf j = record { number = j .number; show = j .show; size = j .size; comp
 abbrev pub acceptedCosts : FarmCosts → Accepted → Costs
 acceptedCosts c x = costsFor c (x .compute)
 
--- chunks that do what was accepted: of its number and show, some units each, adding up to its size, sent and finished as its costs make it, ending by
--- its deadline
+-- chunks that do what was accepted: of its number and show, some units each, adding up to its size, sent and finished as its costs make it, computed by then as
+-- its compute cost makes it, ending by its deadline
 pub record Fulfils (c : FarmCosts) (x : Accepted) (ls : List Chunk) : Type 0 where
   pub named : All (λ (y : Chunk). (y .job ≡ x .number) × (y .show ≡ x .show)) ls
   pub each : All (λ (y : Chunk). 1 ≤ y .units) ls
   pub all : unitsIn ls ≡ x .size
   pub sent : All (λ (y : Chunk). y .sent ≡ sendEnd (acceptedCosts c x) (y .start) (y .units)) ls
   pub finish : All (λ (y : Chunk). y .finish ≡ chunkFinish (acceptedCosts c x) (y .start) (y .units)) ls
+  pub computed : All (Computes c (x .compute)) ls
   pub ends : All (λ (y : Chunk). y .finish ≤ x .deadline) ls
 
 -- ---- The lifecycle of a job

@@ -301,10 +301,10 @@ old-job-fails = refl
 
 -- The old plan stands all the same, and is issued: jobs 2 and 3 as they were booked, by 10 and by 20.
 pub old-plan-stands : issued (offerFarm (farmOf oldJobFails) (oldJobFails .offer)) 9
-    ≡ record { job = 2; show = 1; node = 2; units = 3; start = 2; sent = 5; finish = 8 }
-    ∷ record { job = 2; show = 1; node = 1; units = 2; start = 5; sent = 7; finish = 9 }
-    ∷ record { job = 3; show = 1; node = 2; units = 5; start = 9; sent = 14; finish = 19 }
-    ∷ record { job = 3; show = 1; node = 1; units = 3; start = 14; sent = 17; finish = 20 }
+    ≡ record { job = 2; show = 1; node = 2; units = 3; start = 2; sent = 5; finish = 8; computed = 8 }
+    ∷ record { job = 2; show = 1; node = 1; units = 2; start = 5; sent = 7; finish = 9; computed = 9 }
+    ∷ record { job = 3; show = 1; node = 2; units = 5; start = 9; sent = 14; finish = 19; computed = 19 }
+    ∷ record { job = 3; show = 1; node = 1; units = 3; start = 14; sent = 17; finish = 20; computed = 20 }
     ∷ []
 unfolding made openFarm offerAsked offerSaid offerFarm hasNumber ofNumber without withdrawSaid withdrawFarm keep linesOfAll passesOf countsWithin timesWithin waitingPass costsWithin allAtMost allAtLeast jobsPass jobPasses jobWithin jobKept sharesKept noneOf allDiffer fitAll spansOfAll chunksFrom afters keysBy plan booksAll noLater insertKey sortOnto nodeKeys ranked search bookingOf bookedAt bookOf finish sum first left capacity cut greedy earliest
 old-plan-stands = refl

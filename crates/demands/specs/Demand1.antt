@@ -8,9 +8,11 @@
 --   document 02 (iv): "A quote takes what an offer takes and gives the same answer, job number and refusals included, as
 --    offering to a copy of the farm. ... a quote given prints `quote` in place of `yes`."      quote-given, quote-refused
 --   "The farm stays the same."                                                               quote-keeps
+--   document 02 (vii): "The chunk record and its `chunk` line get an eighth field: the end of computing, which is send end + SC + units × p. It lies after
+--    the send end and at or before the finish."                                          move-computes, shown-computes
 -- The contracts equate the functions of src/ with the definitions that these theorems speak of.
-use mathlib.Core.Path.{_≡_, refl, ap}
-use mathlib.Core.List.{List, [], _∷_, _++_}
+use mathlib.Core.Path.{_≡_, refl, ap, sym, _∙_}
+use mathlib.Core.List.{List, [], _∷_, _++_, List·Memᴰ}
 use mathlib.Core.Bool.{Bool, true, false, cond, _&&_}
 use Prim.Native.Nat.{ℕ, zero, suc, _+_, _-_}
 use native.Mathlib.Omega.{arith}
@@ -18,14 +20,23 @@ use borrow.Author.Tests.{eqb-false}
 use lib.Dec.{leb, ltb, eqb}
 use lib.ListN.{length, drop}
 use Rattle.limits.specs.declared.FarmCosts.{FarmCosts}
+use Rattle.lists.specs.Laws.{All, all-map, all-both, all-of, at-member, perm-all}
+use Rattle.lists.specs.Keep.{keep-all}
+use Rattle.booking.specs.Best.{chosen, units}
+use Rattle.walk.specs.declared.Job.{Job}
 use Rattle.walk.specs.declared.Chunk.{Chunk}
+use Rattle.walk.specs.Order.{by-start-perm}
+use Rattle.walk.specs.EndOfComputing.{Computes, job-computes}
 use Rattle.planner.specs.declared.Farm.{Farm}
 use Rattle.answers.specs.declared.Offer.{Offer}
-use Rattle.planner.specs.Model.{greatest, between, costsWithin, waitingOf}
+use Rattle.planner.specs.Model.{greatest, between, costsWithin, linesOf, byStart, waitingOf, Sized}
 use Rattle.planner.specs.Passes.{passesOf}
 use Rattle.planner.specs.Calls.{hasNumber, Open, Yes, Clock, Shown, Account, Gone, Quote, Said, granted, refused, showsWithin, openSaid, openFarm, unopened, openedWith, accountSaid, heldBy, allowanceOf, computeOf, planned, accepts, withPlan, ofNumber, yesOf, offerAsked, offerSaid, offerFarm, asQuote, quoteSaid, withdrawnFarm, withdrawSaid, withdrawFarm}
-use Rattle.planner.specs.Clock.{issued, movedFarm, moveAsked, moveSaid, moveFarm, moveMemory, shown, shownAsked, shownSaid, shownMemory}
+use Rattle.planner.specs.Clock.{startsBy, begun, issued, movedFarm, moveAsked, moveSaid, moveFarm, moveMemory, shown, shownAsked, shownSaid, shownMemory}
 use Rattle.demands.specs.CallLists.{quote, handed}
+use Rattle.demands.specs.BegunJobs.{lines-all}
+use Rattle.demands.specs.MovePasses.{Waiting, waiting-jobs}
+use Rattle.demands.specs.Outcome.{chunks-named}
 use Rattle.demands.specs.MoveAnswers.{move-is, move-stopped, shown-is, shown-stopped}
 
 -- ---- Refused exactly where the papers name a refusal
@@ -253,3 +264,38 @@ shown-writes f m e = shown-is f m (go (shownAsked f (length m)) refl)
     go : (n : ℕ) → shownAsked f (length m) ≡ n → shownAsked f (length m) ≡ 0
     go zero q = q
     go (suc n) q = absurd (let r = ap (λ (x : Said). x .number) (shown-stopped f m n q .0) in omega arith)
+
+-- ---- Each line says when its units are computed
+
+-- a line of a waiting job, which ends computing as the job's own compute cost makes it
+pub record LineOf (f : Farm) (x : Chunk) : Type 0 where
+  pub job : Job
+  pub among : List·Memᴰ job (waitingOf f)
+  pub number : x .job ≡ job .number
+  pub computes : Computes (f .costs) (job .compute) x
+
+-- The first question of a granted call was answered yes.
+first-yes : (n : ℕ) (b : Bool) (qs : List Put) → firstNo (asks (suc n) b ∷ qs) ≡ 0 → b ≡ true
+unfolding firstNo
+first-yes n true qs e = refl
+first-yes n false qs e = absurd (omega arith)
+
+waiting-compute : (f : Farm) → Sized f → passesOf f ≡ true → All (λ (j : Job). All (LineOf f) (linesOf (f .costs) j)) (byStart (waitingOf f))
+waiting-compute f z e =
+    perm-all (λ (j : Job). All (LineOf f) (linesOf (f .costs) j)) (by-start-perm (waitingOf f)) (all-of (waitingOf f) (λ j m.
+    let h = at-member (Waiting f) m (waiting-jobs f z e) in
+    all-both (λ x n k. record { job = j; among = m; number = n .0; computes = k }) (linesOf (f .costs) j)
+    (chunks-named (f .costs) (j .compute) (j .number) (j .show) (j .booking .start) (chosen (j .booking)) (units (j .booking)))
+    (job-computes (f .costs) j (h .within .compute .0) (h .sound .each))))
+
+-- Each line of a granted clock move says it: the send's end, SC and units × p, after the send's end, at or before the finish.
+pub move-computes : (f : Farm) (t n : ℕ) → Sized f → moveSaid f t n .number ≡ 0 → All (LineOf f) (issued f t)
+move-computes f t n z e =
+    let P : Job → Type 0 = λ (j : Job). All (LineOf f) (linesOf (f .costs) j) in
+    let jobs = waiting-compute f z (first-yes 10 (passesOf f) _ (sym (move-asks f t n) ∙ e)) in
+    lines-all (LineOf f) (f .costs) (begun f t) (all-map (λ j h. h .0) (begun f t) (keep-all (startsBy t) P (byStart (waitingOf f)) jobs))
+
+-- So does each line of granted showing.
+pub shown-computes : (f : Farm) (n : ℕ) → Sized f → shownSaid f n .number ≡ 0 → All (LineOf f) (shown f)
+shown-computes f n z e =
+    lines-all (LineOf f) (f .costs) (byStart (waitingOf f)) (waiting-compute f z (first-yes 10 (passesOf f) _ (sym (shown-asks f n) ∙ e)))

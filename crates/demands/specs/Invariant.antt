@@ -43,9 +43,10 @@ use Rattle.demands.specs.Outcome.{Refused, taken, Takes, Leaves, Moves, 
 abbrev pub idle : Busy
 idle = record { link = 0; free = replicate 64 0 }
 
--- what is kept of a job, begun or waiting: its show, its shares, and its chunks by its deadline
+-- what is kept of a job, begun or waiting: its show, its compute cost, its shares, and its chunks by its deadline
 pub record Whole (c : FarmCosts) (shows : ℕ) (j : Job) : Type 0 where
   pub show : Between 1 (j .show) shows
+  pub compute : 1 ≤ j .compute
   pub deadline : j .deadline ≤ greatest
   pub paired : Paired j
   pub each : Positive (units (j .booking))
@@ -79,6 +80,7 @@ pub record Inv (w : History) : Type 0 where
 pub waiting-whole : (f : Farm) (j : Job) → Waiting f j → Whole (f .costs) (f .shows) j
 waiting-whole f j h = record {
   show = h .within .show;
+  compute = h .within .compute .0;
   deadline = h .within .deadline;
   paired = h .paired;
   each = h .sound .each;
@@ -347,7 +349,7 @@ module _ (w : History) (t : ℕ) (m : List Chunk) where
         lines-all (λ (x : Chunk). Between 1 (x .show) (length (f .held))) (f .costs) (begun f t)
         (all-map (λ j h.
         all-map (λ x e. (omega (arith, e .1, h .0 .within .show .0), omega (arith, e .1, h .0 .within .show .1, i .sized .held))) (linesOf (f .costs) j)
-        (chunks-named (ownCosts (f .costs) j) (j .number) (j .show) (j .booking .start) (chosen (j .booking)) (units (j .booking))))
+        (chunks-named (f .costs) (j .compute) (j .number) (j .show) (j .booking .start) (chosen (j .booking)) (units (j .booking))))
         (begun f t) (begun-jobs f (i .sized) (i .passes) t))
 
     moved-held : (s : ℕ) → Between 1 s 32 → heldBy (movedFarm (w .farm) t) s ≡ heldOf s (w .lines ++ issued (w .farm) t)

@@ -10,7 +10,6 @@ use borrow.Author.Tests.{leb-true, leb-false, not-true, eq-eqb, ne-eqb}
 use lib.Dec.{eqb}
 use lib.ListN.{length}
 use Rattle.lists.specs.Laws.{All, Differ, all-map, all-of, at-member, all-image, image-all, all-append, all-join, pairs-across, mem-left, mem-right, map-join, perm-all, perm-mem, perm-pairs, pairs-parts}
-use Rattle.shares.specs.declared.Costs.{Costs}
 use Rattle.limits.specs.declared.FarmCosts.{FarmCosts}
 use Rattle.shares.specs.Model.{sum, sendEnd, chunkFinish}
 use Rattle.shares.specs.Lists.{Positive}
@@ -19,9 +18,10 @@ use Rattle.walk.specs.declared.Job.{Job}
 use Rattle.walk.specs.declared.Chunk.{Chunk}
 use Rattle.planner.specs.declared.Farm.{Farm}
 use Rattle.answers.specs.declared.Offer.{Offer}
-use Rattle.planner.specs.Model.{ownCosts, Span, chunksFrom, linesOf, spansOfAll, Sized, waitingOf, busyOf, termsOf}
+use Rattle.planner.specs.Model.{costsFor, Span, chunksFrom, linesOf, spansOfAll, Sized, waitingOf, busyOf, termsOf}
 use Rattle.planner.specs.Passes.{passesOf}
 use Rattle.walk.specs.Chain.{chunks-finish}
+use Rattle.walk.specs.EndOfComputing.{job-computes}
 use Rattle.walk.specs.Order.{by-deadline-perm}
 use Rattle.walk.specs.Plan.{plan-numbers}
 use Rattle.soundness.specs.Sweep.{spans-all}
@@ -54,7 +54,7 @@ from-image f (x ∷ xs) m = ⊎-elim (λ e. record { it = x; among = List·Mem�
 
 -- A job's chunks name it.
 pub lines-named : (c : FarmCosts) (j : Job) → All (λ (y : Chunk). y .job ≡ j .number) (linesOf c j)
-lines-named c j = all-map (λ x h. h .0) (linesOf c j) (chunks-named (ownCosts c j) (j .number) (j .show) (j .booking .start) (chosen (j .booking)) (units (j .booking)))
+lines-named c j = all-map (λ x h. h .0) (linesOf c j) (chunks-named c (j .compute) (j .number) (j .show) (j .booking .start) (chosen (j .booking)) (units (j .booking)))
 
 -- Jobs of other numbers have no chunk of job n.
 pub none-of-jobs : (c : FarmCosts) (n : ℕ) (js : List Job) → All (λ (j : Job). j .number ≡ n → ⊥) js → NoneOf n (linesOfAll c js)
@@ -111,38 +111,41 @@ spans-start c js j d m =
     all-image P (λ (x : Chunk). record { from = i .booking .start; chunk = x }) (linesOf c i)
     (all-map (λ x e q. ap (λ (k : Job). k .booking .start) (sym (of-number-is js i d n) ∙ ap (λ (a : ℕ). ofNumber a js) (sym e ∙ q) ∙ of-number-is js j d m)) (linesOf c i) (lines-named c i))))
 
-chunks-units : (c : Costs) (j s t : ℕ) (ks xs : List ℕ) → length ks ≡ length xs → Positive xs
-    → All (λ (y : Chunk). 1 ≤ y .units) (chunksFrom c j s t ks xs) × (unitsIn (chunksFrom c j s t ks xs) ≡ sum xs)
+chunks-units : (c : FarmCosts) (p j s t : ℕ) (ks xs : List ℕ) → length ks ≡ length xs → Positive xs
+    → All (λ (y : Chunk). 1 ≤ y .units) (chunksFrom c p j s t ks xs) × (unitsIn (chunksFrom c p j s t ks xs) ≡ sum xs)
 unfolding chunksFrom unitsIn sum
-chunks-units c j s t [] [] e p = (tt, refl)
-chunks-units c j s t [] (a ∷ xs) e p = absurd (omega arith)
-chunks-units c j s t (k ∷ ks) [] e p = absurd (omega arith)
-chunks-units c j s t (k ∷ ks) (a ∷ xs) e p =
-    let r = chunks-units c j s (sendEnd c t a) ks xs (omega arith) (p .1) in
-    ((p .0, r .0), ap (λ (n : ℕ). a + n) (r .1))
+chunks-units c p j s t [] [] e h = (tt, refl)
+chunks-units c p j s t [] (a ∷ xs) e h = absurd (omega arith)
+chunks-units c p j s t (k ∷ ks) [] e h = absurd (omega arith)
+chunks-units c p j s t (k ∷ ks) (a ∷ xs) e h =
+    let r = chunks-units c p j s (sendEnd (costsFor c p) t a) ks xs (omega arith) (h .1) in
+    ((h .0, r .0), ap (λ (n : ℕ). a + n) (r .1))
 
 -- Each send ends and each chunk finishes when the costs make it.
-chunks-times : (c : Costs) (j s t : ℕ) (ks xs : List ℕ) → All (λ (y : Chunk). (y .sent ≡ sendEnd c (y .start) (y .units)) × (y .finish ≡ chunkFinish c (y .start) (y .units))) (chunksFrom c j s t ks xs)
+chunks-times : (c : FarmCosts) (p j s t : ℕ) (ks xs : List ℕ)
+    → All (λ (y : Chunk). (y .sent ≡ sendEnd (costsFor c p) (y .start) (y .units)) × (y .finish ≡ chunkFinish (costsFor c p) (y .start) (y .units))) (chunksFrom c p j s t ks xs)
 unfolding chunksFrom
-chunks-times c j s t [] [] = tt
-chunks-times c j s t [] (a ∷ xs) = tt
-chunks-times c j s t (k ∷ ks) [] = tt
-chunks-times c j s t (k ∷ ks) (a ∷ xs) = ((refl, refl), chunks-times c j s (sendEnd c t a) ks xs)
+chunks-times c p j s t [] [] = tt
+chunks-times c p j s t [] (a ∷ xs) = tt
+chunks-times c p j s t (k ∷ ks) [] = tt
+chunks-times c p j s t (k ∷ ks) (a ∷ xs) = ((refl, refl), chunks-times c p j s (sendEnd (costsFor c p) t a) ks xs)
 
 -- The chunks of a whole job do what it was accepted for.
 pub whole-fulfils : (c : FarmCosts) (n : ℕ) (j : Job) → Whole c n j → Fulfils c (acceptedOf j) (linesOf c j)
 whole-fulfils c n j h =
     let s = j .booking .start in
-    let own = ownCosts c j in
-    let times = chunks-times own (j .number) (j .show) s (chosen (j .booking)) (units (j .booking)) in
-    let r = chunks-units own (j .number) (j .show) s (chosen (j .booking)) (units (j .booking)) (h .paired .0) (h .each) in
+    let ks = chosen (j .booking) in
+    let xs = units (j .booking) in
+    let times = chunks-times c (j .compute) (j .number) (j .show) s ks xs in
+    let r = chunks-units c (j .compute) (j .number) (j .show) s ks xs (h .paired .0) (h .each) in
     record {
-      named = chunks-named own (j .number) (j .show) s (chosen (j .booking)) (units (j .booking));
+      named = chunks-named c (j .compute) (j .number) (j .show) s ks xs;
       each = r .0;
       all = r .1 ∙ h .all;
       sent = all-map (λ x k. k .0) (linesOf c j) times;
       finish = all-map (λ x k. k .1) (linesOf c j) times;
-      ends = all-map (λ x k. omega (arith, h .ends)) (linesOf c j) (chunks-finish own (j .number) (j .show) s (chosen (j .booking)) (units (j .booking)));
+      computed = job-computes c j (h .compute) (h .each);
+      ends = all-map (λ x k. omega (arith, h .ends)) (linesOf c j) (chunks-finish c (j .compute) (j .number) (j .show) s ks xs);
     }
 
 -- ---- A job that waits

@@ -162,7 +162,7 @@ module _ (f : Farm) (sized : Sized f) (e : passesOf f ≡ true) where
 -- A waiting job has as many lines as its booking counts.
 pub lines-count : (f : Farm) (j : Job) → Waiting f j → length (linesOf (f .costs) j) ≡ j .booking .count
 lines-count f j h =
-    lines-length (ownCosts (f .costs) j) (j .number) (j .show) (j .booking .start) (chosen (j .booking)) (units (j .booking)) (h .paired .0)
+    lines-length (f .costs) (j .compute) (j .number) (j .show) (j .booking .start) (chosen (j .booking)) (units (j .booking)) (h .paired .0)
     ∙ length-take-le (j .booking .count) (j .booking .shares) (omega (arith, h .sized .shares, h .within .count .1))
 
 -- Several waiting jobs have at most 64 lines each.

@@ -19,7 +19,7 @@ fn answer_all(
     output: i32,
     session: Session,
     block: &[u8],
-    rows: &mut [[u64; 7]; 1024],
+    rows: &mut [[u64; 8]; 1024],
     out: &mut [u8],
 ) -> Sent
     requires { ⌜ Reachable (session .farm) ⌝ }
@@ -65,7 +65,7 @@ fn tell_unwritten() {
 }
 
 // The end of the input: a last line may lack its newline.
-fn end(output: i32, session: Session, rows: &mut [[u64; 7]; 1024], out: &mut [u8])
+fn end(output: i32, session: Session, rows: &mut [[u64; 8]; 1024], out: &mut [u8])
     requires { ⌜ Reachable (session .farm) ⌝ }
 {
     let written = protocol::end_of_input(session, rows, out);
@@ -79,7 +79,7 @@ fn end(output: i32, session: Session, rows: &mut [[u64; 7]; 1024], out: &mut [u8
 pub fn answer_stream(input: i32, output: i32) {
     let mut block = io::large_buffer();
     let mut out = [0u8; 262144];
-    let mut rows = [[0u64; 7]; 1024];
+    let mut rows = [[0u64; 8]; 1024];
     let mut day = protocol::start();
     let mut turns = u64::MAX;
     while turns > 0 {

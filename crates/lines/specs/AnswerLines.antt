@@ -27,8 +27,8 @@ use Rattle.lines.specs.Model.{printedAs, answerText, chunkText, chunkTex
 unfoldable pub lineWith : Said → Line
 lineWith s =
     cond (eqb (s .number) 0)
-    (record { word = printedAs (s .word); count = length (s .values); numbers = padded 7 (s .values) })
-    (record { word = word.No; count = 1; numbers = padded 7 (s .number ∷ []) })
+    (record { word = printedAs (s .word); count = length (s .values); numbers = padded 8 (s .values) })
+    (record { word = word.No; count = 1; numbers = padded 8 (s .number ∷ []) })
 
 abbrev pub textOf : Line → List ℕ
 textOf l = lineText (l .word) (take (l .count) (l .numbers))
@@ -44,7 +44,7 @@ line-text (answer.Gone j) = refl
 line-text (answer.Quote j s t k) = refl
 line-text (answer.No q) = rw (no-number q)
 
-pub line-count : (a : Answer) → lineWith (said a) .count ≤ 7
+pub line-count : (a : Answer) → lineWith (said a) .count ≤ 8
 unfolding lineWith
 line-count (answer.Open n s) = omega arith
 line-count (answer.Yes j s t k) = omega arith
@@ -57,9 +57,9 @@ line-count (answer.No q) = rw (no-number q) (omega arith)
 
 -- ---- The chunk lines of a clock move
 
--- the largest answer: 1,024 chunk lines and a clock line, of at most 160 bytes each
+-- the largest answer: 1,024 chunk lines and a clock line, of at most 176 bytes each
 abbrev pub largest : ℕ
-largest = 164_000
+largest = 180_400
 
 -- the lines of records that are rows of numbers
 unfoldable pub rowTexts : List (List ℕ) → List ℕ
@@ -73,7 +73,7 @@ row-snoc (y ∷ xs) x = ap (λ (l : List ℕ). lineText word.Chunk y ++ l) (row-
 
 -- One line more is written.
 pub row-next : (xs : List (List ℕ)) (i : ℕ) (l : Line) {at : ℕ} {e x y : List ℕ} {r s : ℕ} → i < length xs → r ≤ length e → textOf l ≡ lineText word.Chunk (getD xs i [])
-    → WroteWithin (i * 160) (rowTexts (take i xs)) at e x r → WroteWithin 160 (textOf l) r x y s → WroteWithin ((i + 1) * 160) (rowTexts (take (i + 1) xs)) at e y s
+    → WroteWithin (i * 176) (rowTexts (take i xs)) at e x r → WroteWithin 176 (textOf l) r x y s → WroteWithin ((i + 1) * 176) (rowTexts (take (i + 1) xs)) at e y s
 row-next xs i l h k t a b =
     let more : rowTexts (take i xs) ++ textOf l ≡ rowTexts (take (i + 1) xs) =
     ap (λ (z : List ℕ). rowTexts (take i xs) ++ z) t ∙ sym (rw (add-one i, take-suc xs i [] h) (row-snoc (take i xs) (getD xs i []))) in

@@ -7,6 +7,7 @@ use lib.Dec.{leb, ltb, eqb}
 use lib.ListN.{length, getD, drop}
 use Rattle.limits.specs.declared.FarmCosts.{FarmCosts}
 use Rattle.walk.specs.declared.Chunk.{Chunk}
+use Rattle.timetable.specs.Model.{rowOf}
 use Rattle.planner.specs.declared.Farm.{Farm}
 use Rattle.answers.specs.declared.ComputeCost.{ComputeCost}
 use Rattle.answers.specs.declared.ComputeCost.the-variants.{Absent, Given}
@@ -43,9 +44,9 @@ printedAs calls.No = word.No
 unfoldable pub answerText : Said → List ℕ
 answerText s = cond (eqb (s .number) 0) (lineText (printedAs (s .word)) (s .values)) (refusal (s .number))
 
--- `chunk` with the record's seven fields
+-- `chunk` with the record's eight numbers
 abbrev pub chunkText : Chunk → List ℕ
-chunkText x = lineText word.Chunk (x .job ∷ x .show ∷ x .node ∷ x .units ∷ x .start ∷ x .sent ∷ x .finish ∷ [])
+chunkText x = lineText word.Chunk (rowOf x)
 
 unfoldable pub chunkTexts : List Chunk → List ℕ
 chunkTexts [] = []

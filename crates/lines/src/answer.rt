@@ -43,7 +43,7 @@ fn line_of(answer: Answer) -> Line
         Answer::Open { nodes, shows } => Line {
             word: Word::Open,
             count: 2,
-            numbers: [nodes, shows, 0, 0, 0, 0, 0],
+            numbers: [nodes, shows, 0, 0, 0, 0, 0, 0],
         },
         Answer::Yes {
             job,
@@ -53,17 +53,17 @@ fn line_of(answer: Answer) -> Line
         } => Line {
             word: Word::Yes,
             count: 4,
-            numbers: [job, start, finish, nodes, 0, 0, 0],
+            numbers: [job, start, finish, nodes, 0, 0, 0, 0],
         },
         Answer::Clock { time, lines } => Line {
             word: Word::Clock,
             count: 2,
-            numbers: [time, lines, 0, 0, 0, 0, 0],
+            numbers: [time, lines, 0, 0, 0, 0, 0, 0],
         },
         Answer::Shown { lines } => Line {
             word: Word::Chunk,
             count: 1,
-            numbers: [lines, 0, 0, 0, 0, 0, 0],
+            numbers: [lines, 0, 0, 0, 0, 0, 0, 0],
         },
         Answer::Account {
             show,
@@ -72,12 +72,12 @@ fn line_of(answer: Answer) -> Line
         } => Line {
             word: Word::Account,
             count: 3,
-            numbers: [show, held, charged, 0, 0, 0, 0],
+            numbers: [show, held, charged, 0, 0, 0, 0, 0],
         },
         Answer::Gone { job } => Line {
             word: Word::Gone,
             count: 1,
-            numbers: [job, 0, 0, 0, 0, 0, 0],
+            numbers: [job, 0, 0, 0, 0, 0, 0, 0],
         },
         Answer::Quote {
             job,
@@ -87,28 +87,28 @@ fn line_of(answer: Answer) -> Line
         } => Line {
             word: Word::Quote,
             count: 4,
-            numbers: [job, start, finish, nodes, 0, 0, 0],
+            numbers: [job, start, finish, nodes, 0, 0, 0, 0],
         },
         Answer::No(question) => Line {
             word: Word::No,
             count: 1,
-            numbers: [number_of(question), 0, 0, 0, 0, 0, 0],
+            numbers: [number_of(question), 0, 0, 0, 0, 0, 0, 0],
         },
     }
 }
 
 // Writes the answer to a call at place `at`, and answers the place behind it.
 pub fn put_answer(out: &mut [u8], at: usize, answer: Answer) -> usize
-    requires { ⌜ at + 160 ≤ length (now out) ⌝ }
-    ensures { λ r. ⌜ WroteWithin 160 (answerText (said answer)) at (now (out .entry)) (now (out .exit)) r ⌝ }
+    requires { ⌜ at + 176 ≤ length (now out) ⌝ }
+    ensures { λ r. ⌜ WroteWithin 176 (answerText (said answer)) at (now (out .entry)) (now (out .exit)) r ⌝ }
 {
     put(out, at, line_of(answer))
 }
 
 // Writes `no` 11: the line cannot be read, or not in its turn.
 pub fn put_unread(out: &mut [u8], at: usize) -> usize
-    requires { ⌜ at + 160 ≤ length (now out) ⌝ }
-    ensures { λ r. ⌜ WroteWithin 160 (refusal 11) at (now (out .entry)) (now (out .exit)) r ⌝ }
+    requires { ⌜ at + 176 ≤ length (now out) ⌝ }
+    ensures { λ r. ⌜ WroteWithin 176 (refusal 11) at (now (out .entry)) (now (out .exit)) r ⌝ }
 {
     put(
         out,
@@ -116,26 +116,26 @@ pub fn put_unread(out: &mut [u8], at: usize) -> usize
         Line {
             word: Word::No,
             count: 1,
-            numbers: [11, 0, 0, 0, 0, 0, 0],
+            numbers: [11, 0, 0, 0, 0, 0, 0, 0],
         },
     )
 }
 
-// The line of a chunk record that is a row of its seven numbers.
-fn row_line(row: [u64; 7]) -> Line
-    ensures { λ r. ⌜ (r .count ≤ 7) × (textOf r ≡ lineText word.Chunk row) ⌝ }
+// The line of a chunk record that is a row of its eight numbers.
+fn row_line(row: [u64; 8]) -> Line
+    ensures { λ r. ⌜ (r .count ≤ 8) × (textOf r ≡ lineText word.Chunk row) ⌝ }
 {
     Line {
         word: Word::Chunk,
-        count: 7,
+        count: 8,
         numbers: row,
     }
 }
 
 // Writes the lines of the first `count` records at place `at`, and answers the place behind them.
-fn put_rows(out: &mut [u8], at: usize, rows: &[[u64; 7]; 1024], count: usize) -> usize
-    requires { ⌜ (count ≤ 1024) × (count ≤ length (now rows)) × (at + count * 160 ≤ length (now out)) ⌝ }
-    ensures { λ r. ⌜ WroteWithin (count * 160) (rowTexts (take count (now (rows .entry)))) at (now (out .entry)) (now (out .exit)) r ⌝ }
+fn put_rows(out: &mut [u8], at: usize, rows: &[[u64; 8]; 1024], count: usize) -> usize
+    requires { ⌜ (count ≤ 1024) × (count ≤ length (now rows)) × (at + count * 176 ≤ length (now out)) ⌝ }
+    ensures { λ r. ⌜ WroteWithin (count * 176) (rowTexts (take count (now (rows .entry)))) at (now (out .entry)) (now (out .exit)) r ⌝ }
 {
     let mut i = 0;
     let mut place = at;
@@ -150,7 +150,7 @@ fn put_rows(out: &mut [u8], at: usize, rows: &[[u64; 7]; 1024], count: usize) ->
 pub fn put_move(
     out: &mut [u8],
     at: usize,
-    rows: &[[u64; 7]; 1024],
+    rows: &[[u64; 8]; 1024],
     count: usize,
     answer: Answer,
 ) -> usize

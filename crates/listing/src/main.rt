@@ -17,6 +17,7 @@ const UNUSED: Chunk = Chunk {
     start: 0,
     sent: 0,
     finish: 0,
+    computed: 0,
 };
 
 fn put(word: &[u8], numbers: &[u64]) {
@@ -65,7 +66,16 @@ fn put_chunks(chunks: [Chunk; 1024]) {
         if c.job > 0 {
             put(
                 b"chunk",
-                &[c.job, c.show, c.node, c.units, c.start, c.sent, c.finish],
+                &[
+                    c.job,
+                    c.show,
+                    c.node,
+                    c.units,
+                    c.start,
+                    c.sent,
+                    c.finish,
+                    c.computed,
+                ],
             );
         }
     }

@@ -23,7 +23,7 @@ pub enum Word {
 pub struct Line {
     pub word: Word,
     pub count: usize,
-    pub numbers: [u64; 7],
+    pub numbers: [u64; 8],
 }
 
 // Ten, a hundred, up to the greatest power of ten below 2^64.
@@ -130,8 +130,8 @@ fn put_number(out: &mut [u8], at: usize, n: u64) -> usize
 }
 
 // The first `count` numbers, each behind a tab.
-fn put_numbers(out: &mut [u8], at: usize, numbers: [u64; 7], count: usize) -> usize
-    requires { ⌜ (count ≤ 7) × (at + 21 * count ≤ length (now out)) ⌝ }
+fn put_numbers(out: &mut [u8], at: usize, numbers: [u64; 8], count: usize) -> usize
+    requires { ⌜ (count ≤ 8) × (at + 21 * count ≤ length (now out)) ⌝ }
     ensures { λ r. ⌜ WroteWithin (21 * count) (tabbed (take count numbers)) at (now (out .entry)) (now (out .exit)) r ⌝ }
 {
     let mut place = at;
@@ -143,10 +143,10 @@ fn put_numbers(out: &mut [u8], at: usize, numbers: [u64; 7], count: usize) -> us
     place
 }
 
-// Writes the line at place `at` and answers the place behind it. A line takes at most 160 bytes.
+// Writes the line at place `at` and answers the place behind it. A line takes at most 176 bytes.
 pub fn put(out: &mut [u8], at: usize, line: Line) -> usize
-    requires { ⌜ (line .count ≤ 7) × (at + 160 ≤ length (now out)) ⌝ }
-    ensures { λ r. ⌜ WroteWithin 160 (lineText (line .word) (take (line .count) (line .numbers))) at (now (out .entry)) (now (out .exit)) r ⌝ }
+    requires { ⌜ (line .count ≤ 8) × (at + 176 ≤ length (now out)) ⌝ }
+    ensures { λ r. ⌜ WroteWithin 176 (lineText (line .word) (take (line .count) (line .numbers))) at (now (out .entry)) (now (out .exit)) r ⌝ }
 {
     let word = line.word;
     let numbers = line.numbers;

@@ -55,20 +55,20 @@ pub fn answer_block(
     session: Session,
     block: &[u8],
     from: usize,
-    rows: &mut [[u64; 7]; 1024],
+    rows: &mut [[u64; 8]; 1024],
     out: &mut [u8],
 ) -> Progress
     requires { ⌜ Reachable (session .farm) ⌝ }
     ensures { λ r. ⌜ Took session (now (block .entry)) from (now (out .entry)) (now (out .exit)) r ⌝ }
 {
-    if out.len() < 164000 {
+    if out.len() < 180400 {
         return Progress {
             session,
             next: from,
             written: 0,
         };
     }
-    let last = out.len() - 164000;
+    let last = out.len() - 180400;
     let mut farm = session.farm;
     let mut rest = session.rest;
     let mut next = from;
@@ -164,12 +164,12 @@ pub fn answer_block(
 }
 
 // The end of the input: what is pending is a line if it is not empty. It writes nothing where `out` may not hold the answer.
-pub fn end_of_input(session: Session, rows: &mut [[u64; 7]; 1024], out: &mut [u8]) -> usize
+pub fn end_of_input(session: Session, rows: &mut [[u64; 8]; 1024], out: &mut [u8]) -> usize
     requires { ⌜ Reachable (session .farm) ⌝ }
     ensures { λ r. ⌜ WroteWithin (length (now (out .entry))) (endText session (length (now (out .entry)))) 0 (now (out .entry)) (now (out .exit)) r ⌝ }
 {
     let rest = session.rest;
-    if out.len() < 164000 {
+    if out.len() < 180400 {
         return 0;
     }
     if rest.fill == 0 {

@@ -1,4 +1,4 @@
--- A lent slice of Chunk, `out: &mut [Chunk]`, in a derivation: an element is stored, the count is read, and the slice is lent again to a call and comes back. For a slice of another struct, change the three lines that name Chunk, and 56, its size.
+-- A lent slice of Chunk, `out: &mut [Chunk]`, in a derivation: an element is stored, the count is read, and the slice is lent again to a call and comes back. For a slice of another struct, change the three lines that name Chunk, and 64, its size.
 --     ref, again            the MIR type of the reference in a signature, and of one that is lent again
 --     store                 `*q = copy y`, where q points at an element
 --     lend, pair, back      the slice is lent again, at the lifetime in slot 1, and comes back
@@ -71,9 +71,9 @@ module _ {M : Type 1} {𝓤 : URA M} {H : Heap 𝓤} {A : Atoms 𝓤} (W : Given
       → As 𝓤 H A (ent₁ Γ s q .1) (mslice chunk ref 0) hs → As 𝓤 H A (ent₂ Γ s q .1) (sc-here sPtr) hq → Yields 𝓤 H A (λ ρ. Unit) ty (getRow y (tab₂ Γ s q) .1) slot chunk hy ky
       → getLife 0 (Γ .slots) ≡ l → IsTok l → spotOf 𝓤 H E (ent₂ Γ s q .0) .0 ≡ tyPtr → spotOf 𝓤 H E (getRow y (tab₂ Γ s q) .0) .0 ≡ ty
       → Stmt 𝓤 H A 𝓣 E Γ (assign (place (ent₂ Γ s q .0) (deref ty ∷ [])) (rvOpd (copy (place (getRow y (tab₂ Γ s q) .0) [])))) (AfterSl chunk Γ s q y 0 ref l slot)
-      (Φsl-set-from chunk Γ s q y 0 ref l slot (bySize 56) idx hs hq hy ky)
+      (Φsl-set-from chunk Γ s q y 0 ref l slot (bySize 64) idx hs hq hy ky)
   store {𝓣} {E} {Γ} s q y l idx hs hq hy ky a₁ a₂ yl e tk eq ey =
-      t-sl-set-from 𝓤 H A W E chunk 𝓣 refl (λ ρ. Unit) Γ s q y 0 ref l ty ty slot (bySize 56) idx hs hq hy ky (λ i o. at-mul o 56 i) refl refl (told-none 𝓤 H A (Γ .slots)) a₁ a₂ yl e tk eq ey
+      t-sl-set-from 𝓤 H A W E chunk 𝓣 refl (λ ρ. Unit) Γ s q y 0 ref l ty ty slot (bySize 64) idx hs hq hy ky (λ i o. at-mul o 64 i) refl refl (told-none 𝓤 H A (Γ .slots)) a₁ a₂ yl e tk eq ey
 
   -- its count is read
   pub count : ReadsAt 𝓤 H A (mslice chunk ref 0) word 8 lenV

@@ -4,13 +4,12 @@ use mathlib.Core.List.{List, [], _∷_, _++_}
 use Prim.Native.Nat.{ℕ, zero, suc, _+_, _*_, _-_, _≤_, _<_}
 use native.Mathlib.Omega.{arith}
 use lib.ListN.{length, getD, set, length-set}
-use Rattle.shares.specs.declared.Costs.{Costs}
 use Rattle.limits.specs.declared.FarmCosts.{FarmCosts}
 use Rattle.shares.specs.Model.{sendEnd, chunkFinish, finish}
 use Rattle.booking.specs.Best.{chosen, units}
 use Rattle.walk.specs.declared.Job.{Job}
 use Rattle.walk.specs.declared.Chunk.{Chunk}
-use Rattle.walk.specs.Model.{greatest, ownCosts, chunkAt, chunksFrom, linesOf}
+use Rattle.walk.specs.Model.{greatest, costsFor, chunkAt, chunksFrom, linesOf}
 use Rattle.walk.specs.Chunks.{Sends, linesFrom, latestFrom, lines-next, ends-next}
 use Rattle.timetable.specs.Model.{holds, raised}
 
@@ -37,21 +36,21 @@ add-most (x ∷ hs) (suc p) zero a = omega arith
 add-most (x ∷ hs) (suc p) (suc k) a = add-most hs p k a
 
 -- A job's chunks add at most the greatest tick each.
-raise-most : (c : Costs) (hs : List ℕ) (j s t k : ℕ) (ks xs : List ℕ) → finish c t xs ≤ greatest
-    → getD (raised hs (chunksFrom c j s t ks xs)) k 0 ≤ getD hs k 0 + length ks * greatest
+raise-most : (c : FarmCosts) (hs : List ℕ) (p j s t k : ℕ) (ks xs : List ℕ) → finish (costsFor c p) t xs ≤ greatest
+    → getD (raised hs (chunksFrom c p j s t ks xs)) k 0 ≤ getD hs k 0 + length ks * greatest
 unfolding raised chunksFrom finish
-raise-most c hs j s t k [] [] e = omega arith
-raise-most c hs j s t k [] (a ∷ xs) e = omega arith
-raise-most c hs j s t k (n ∷ ks) [] e = omega arith
-raise-most c hs j s t k (n ∷ ks) (a ∷ xs) e =
-    let now = addTo hs (s - 1) (chunkFinish c t a - t) in
-    let rest : getD (raised now (chunksFrom c j s (sendEnd c t a) ks xs)) k 0 ≤ getD now k 0 + length ks * greatest = raise-most c now j s (sendEnd c t a) k ks xs (omega arith) in
-    let one : getD now k 0 ≤ getD hs k 0 + (chunkFinish c t a - t) = add-most hs (s - 1) k (chunkFinish c t a - t) in
+raise-most c hs p j s t k [] [] e = omega arith
+raise-most c hs p j s t k [] (a ∷ xs) e = omega arith
+raise-most c hs p j s t k (n ∷ ks) [] e = omega arith
+raise-most c hs p j s t k (n ∷ ks) (a ∷ xs) e =
+    let now = addTo hs (s - 1) (chunkFinish (costsFor c p) t a - t) in
+    let rest : getD (raised now (chunksFrom c p j s (sendEnd (costsFor c p) t a) ks xs)) k 0 ≤ getD now k 0 + length ks * greatest = raise-most c now p j s (sendEnd (costsFor c p) t a) k ks xs (omega arith) in
+    let one : getD now k 0 ≤ getD hs k 0 + (chunkFinish (costsFor c p) t a - t) = add-most hs (s - 1) k (chunkFinish (costsFor c p) t a - t) in
     omega arith
 
 pub job-most : (c : FarmCosts) (hs : List ℕ) (j : Job) (k : ℕ) → Sends c j → getD (raised hs (linesOf c j)) k 0 ≤ getD hs k 0 + 64_000_000_000_000
 job-most c hs j k x =
-    omega (arith, x .few, x .nodes, raise-most (ownCosts c j) hs (j .number) (j .show) (j .booking .start) k (chosen (j .booking)) (units (j .booking)) (x .ends))
+    omega (arith, x .few, x .nodes, raise-most c hs (j .compute) (j .number) (j .show) (j .booking .start) k (chosen (j .booking)) (units (j .booking)) (x .ends))
 
 -- where the loop over a job's chunks stands at chunk i, whose send begins at t: the chunks left raise the cells to what all of them make of the
 -- first ones, and what has been added is bounded

@@ -6,14 +6,13 @@ use native.Mathlib.Omega.{arith}
 use lib.ListN.{length, getD, take, drop, set, length-append, length-drop, length-map, take-append-drop}
 use lib.Seq.{take-suc-set, drop-set-lt, drop-drop, length-take-le, take-at, drop-at}
 use Rattle.lists.specs.Laws.{All, all-front, image-all, map-join, front-next, front-none}
-use Rattle.shares.specs.declared.Costs.{Costs}
 use Rattle.limits.specs.declared.FarmCosts.{FarmCosts}
 use Rattle.shares.specs.Model.{sendEnd}
 use Rattle.keys.specs.declared.Key.{Key}
 use Rattle.keys.specs.Model.{noKey}
 use Rattle.walk.specs.declared.Job.{Job}
 use Rattle.walk.specs.declared.Chunk.{Chunk}
-use Rattle.walk.specs.Model.{noJob, ownCosts, chunkAt, chunksFrom, linesOf, inOrder}
+use Rattle.walk.specs.Model.{noJob, costsFor, chunkAt, chunksFrom, linesOf, inOrder}
 use Rattle.walk.specs.Chunks.{Sends, linesFrom, lines-none, lines-next}
 use Rattle.booking.specs.Best.{chosen, units}
 use Rattle.timetable.specs.Model.{linesOfAll, rowOf}
@@ -56,15 +55,15 @@ module _ (c : FarmCosts) (j : Job) (s : Sends c j) (at : ℕ) where
 -- ---- Several jobs
 
 -- A job's lines are as many as its chunks.
-pub lines-length : (c : Costs) (n s t : ℕ) (ks xs : List ℕ) → length ks ≡ length xs → length (chunksFrom c n s t ks xs) ≡ length xs
+pub lines-length : (c : FarmCosts) (p n s t : ℕ) (ks xs : List ℕ) → length ks ≡ length xs → length (chunksFrom c p n s t ks xs) ≡ length xs
 unfolding chunksFrom
-lines-length c n s t [] [] e = refl
-lines-length c n s t [] (a ∷ xs) e = absurd (omega arith)
-lines-length c n s t (k ∷ ks) [] e = absurd (omega arith)
-lines-length c n s t (k ∷ ks) (a ∷ xs) e = ap suc (lines-length c n s (sendEnd c t a) ks xs (omega arith))
+lines-length c p n s t [] [] e = refl
+lines-length c p n s t [] (a ∷ xs) e = absurd (omega arith)
+lines-length c p n s t (k ∷ ks) [] e = absurd (omega arith)
+lines-length c p n s t (k ∷ ks) (a ∷ xs) e = ap suc (lines-length c p n s (sendEnd (costsFor c p) t a) ks xs (omega arith))
 
 pub job-lines : (c : FarmCosts) (j : Job) → Sends c j → length (linesOf c j) ≡ j .booking .count
-job-lines c j s = lines-length (ownCosts c j) (j .number) (j .show) (j .booking .start) (chosen (j .booking)) (units (j .booking)) (s .nodes ∙ sym (s .shares)) ∙ s .shares
+job-lines c j s = lines-length c (j .compute) (j .number) (j .show) (j .booking .start) (chosen (j .booking)) (units (j .booking)) (s .nodes ∙ sym (s .shares)) ∙ s .shares
 
 -- So are those of several jobs.
 pub all-lines : (c : FarmCosts) (js : List Job) → All (Sends c) js → length (linesOfAll c js) ≡ chunks js

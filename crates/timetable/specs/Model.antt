@@ -22,9 +22,9 @@ unfoldable pub linesOfAll : FarmCosts → List Job → List Chunk
 linesOfAll c [] = []
 linesOfAll c (j ∷ js) = linesOf c j ++ linesOfAll c js
 
--- a line as a row of its seven numbers
+-- a line as a row of its eight numbers, in the order of the papers: the end of computing is the last
 abbrev pub rowOf : Chunk → List ℕ
-rowOf x = x .job ∷ x .show ∷ x .node ∷ x .units ∷ x .start ∷ x .sent ∷ x .finish ∷ []
+rowOf x = x .job ∷ x .show ∷ x .node ∷ x .units ∷ x .start ∷ x .sent ∷ x .finish ∷ x .computed ∷ []
 
 -- what an issued chunk adds to its show's held ticks: its finish minus the start of its own send, document 02 (vi)
 abbrev pub holds : Chunk → ℕ

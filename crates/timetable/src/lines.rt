@@ -61,9 +61,9 @@ pub fn write_lines(out: &mut [Chunk], costs: FarmCosts, jobs: [Job; 128], count:
     }
 }
 
-// Writes a job's lines from place `at` on, each as a row of the record's seven numbers. It takes a slice, since a lent
+// Writes a job's lines from place `at` on, each as a row of the record's eight numbers. It takes a slice, since a lent
 // array's length is known to the proof only where the array is made one.
-fn write_row_job(rows: &mut [[u64; 7]], at: usize, costs: FarmCosts, job: Job)
+fn write_row_job(rows: &mut [[u64; 8]], at: usize, costs: FarmCosts, job: Job)
     requires { ⌜ Sends costs job × (at + job .booking .count ≤ length (now rows)) ⌝ }
     ensures { λ _. ⌜ now (rows .exit) ≡ Filled (now (rows .entry)) at (map rowOf (linesOf costs job)) (at + job .booking .count) ⌝ }
 {
@@ -81,16 +81,25 @@ fn write_row_job(rows: &mut [[u64; 7]], at: usize, costs: FarmCosts, job: Job)
             booking.shares[i],
             from,
         );
-        rows[at + i] = [c.job, c.show, c.node, c.units, c.start, c.sent, c.finish];
+        rows[at + i] = [
+            c.job,
+            c.show,
+            c.node,
+            c.units,
+            c.start,
+            c.sent,
+            c.finish,
+            c.computed,
+        ];
         from = c.sent;
         i += 1;
     }
 }
 
 // Writes the lines of the jobs that the first `count` keys name to the front of 1,024 records, each a row of the record's
-// seven numbers.
+// eight numbers.
 pub fn write_rows(
-    rows: &mut [[u64; 7]; 1024],
+    rows: &mut [[u64; 8]; 1024],
     costs: FarmCosts,
     jobs: [Job; 128],
     keys: [Key; 128],

@@ -15,7 +15,8 @@ use Rattle.limits.specs.Model.{CostsWithin}
 use Rattle.booking.specs.Best.{chosen, units}
 use Rattle.walk.specs.declared.Job.{Job}
 use Rattle.walk.specs.declared.Chunk.{Chunk}
-use Rattle.walk.specs.Model.{greatest, costsFor, ownCosts, chunkAt, chunksFrom, finishOf}
+use Rattle.walk.specs.Returning.{back-last}
+use Rattle.walk.specs.Model.{greatest, costsFor, computeEnd, ownCosts, chunkAt, chunksFrom, finishOf}
 
 -- ---- Sums
 
@@ -29,6 +30,10 @@ product-small u e h k =
 pub finish-small : (c : FarmCosts) (p t a : ℕ) → CostsWithin c → p ≤ 1_000_000 → t ≤ greatest → a < 4294967296 → chunkFinish (costsFor c p) t a < 18446744073709551616
 finish-small c p t a w l h k =
     omega (arith, product-small a (c .send) k (omega (arith, w .send .1)), product-small a (p + c .returning) k (omega (arith, w .returning)), w .linksetup, w .nodesetup)
+
+-- Nor does its end of computing, which is not after the finish.
+pub computed-small : (c : FarmCosts) (p t a : ℕ) → CostsWithin c → p ≤ 1_000_000 → t ≤ greatest → a < 4294967296 → computeEnd c p t a < 18446744073709551616
+computed-small c p t a w l h k = omega (arith, finish-small c p t a w l h k, back-last c p t a)
 
 -- ---- A job's chunks
 
@@ -44,7 +49,7 @@ pub record Sends (c : FarmCosts) (j : Job) : Type 0 where
 
 -- the lines of a job from chunk i on, its send beginning at t
 abbrev pub linesFrom : FarmCosts → Job → ℕ → ℕ → List Chunk
-linesFrom c j i t = chunksFrom (ownCosts c j) (j .number) (j .show) t (drop i (chosen (j .booking))) (drop i (units (j .booking)))
+linesFrom c j i t = chunksFrom c (j .compute) (j .number) (j .show) t (drop i (chosen (j .booking))) (drop i (units (j .booking)))
 
 -- their latest finish
 abbrev pub latestFrom : FarmCosts → Job → ℕ → ℕ → ℕ

@@ -2,6 +2,7 @@
 pub mod Model
 pub mod Order
 pub mod Returning
+pub mod EndOfComputing
 pub mod Chain
 pub mod OrderSteps
 pub mod Chunks

@@ -1,6 +1,6 @@
 -- The deadline walk, in the words and the order of document 01. Everything here is a definition; nothing is assumed.
 pub use Rattle.limits.specs.Model.{greatest, Between}
-use Prim.Native.Nat.{ℕ, suc, _+_, _-_, _≤_, _<_, max}
+use Prim.Native.Nat.{ℕ, suc, _+_, _*_, _-_, _≤_, _<_, max}
 use mathlib.Core.Path.{_≡_}
 use mathlib.Core.List.{List, [], _∷_, _++_, map}
 use mathlib.Core.Bool.{Bool, true, _&&_}
@@ -34,7 +34,7 @@ noJob = record { number = 0; show = 0; size = 0; compute = 0; deadline = 0; book
 
 -- a record of lent memory in which nothing was written
 abbrev pub noChunk : Chunk
-noChunk = record { job = 0; show = 0; node = 0; units = 0; start = 0; sent = 0; finish = 0 }
+noChunk = record { job = 0; show = 0; node = 0; units = 0; start = 0; sent = 0; finish = 0; computed = 0 }
 
 -- the costs of a job whose units take p ticks to compute, as the share arithmetic takes them: a chunk has finished when its audio is back, so what
 -- follows the send takes p + r a unit. Nothing of it is on the link
@@ -49,24 +49,38 @@ defaultCosts c = costsFor c (c .compute)
 abbrev pub ownCosts : FarmCosts → Job → Costs
 ownCosts c j = costsFor c (j .compute)
 
--- the chunk of `a` units on node k, for job j of show s, its send beginning at t
-abbrev pub chunkOn : Costs → ℕ → ℕ → ℕ → ℕ → ℕ → Chunk
-chunkOn c j s t k a = record { job = j; show = s; node = k; units = a; start = t; sent = sendEnd c t a; finish = chunkFinish c t a }
+-- the end of computing of `a` units that take p ticks each, their send beginning at t: the send's end, the node's setup and the units, and nothing of the way
+-- back. Document 02 (vii)
+abbrev pub computeEnd : FarmCosts → ℕ → ℕ → ℕ → ℕ
+computeEnd c p t a = sendEnd (costsFor c p) t a + (c .nodesetup + a * p)
+
+-- the chunk of `a` units on node k, for job j of show s whose units take p ticks to compute, its send beginning at t
+abbrev pub chunkOn : FarmCosts → ℕ → ℕ → ℕ → ℕ → ℕ → ℕ → Chunk
+chunkOn c p j s t k a = record {
+  job = j;
+  show = s;
+  node = k;
+  units = a;
+  start = t;
+  sent = sendEnd (costsFor c p) t a;
+  finish = chunkFinish (costsFor c p) t a;
+  computed = computeEnd c p t a;
+}
 
 -- chunk i of a job, its send beginning at t
 abbrev pub chunkAt : FarmCosts → Job → ℕ → ℕ → Chunk
-chunkAt c j i t = chunkOn (ownCosts c j) (j .number) (j .show) t (getD (j .booking .nodes) i 0) (getD (j .booking .shares) i 0)
+chunkAt c j i t = chunkOn c (j .compute) (j .number) (j .show) t (getD (j .booking .nodes) i 0) (getD (j .booking .shares) i 0)
 
 -- the chunks of shares xs on nodes ks, the first send beginning at t
-unfoldable pub chunksFrom : Costs → ℕ → ℕ → ℕ → List ℕ → List ℕ → List Chunk
-chunksFrom c j s t [] [] = []
-chunksFrom c j s t [] (a ∷ xs) = []
-chunksFrom c j s t (k ∷ ks) [] = []
-chunksFrom c j s t (k ∷ ks) (a ∷ xs) = chunkOn c j s t k a ∷ chunksFrom c j s (sendEnd c t a) ks xs
+unfoldable pub chunksFrom : FarmCosts → ℕ → ℕ → ℕ → ℕ → List ℕ → List ℕ → List Chunk
+chunksFrom c p j s t [] [] = []
+chunksFrom c p j s t [] (a ∷ xs) = []
+chunksFrom c p j s t (k ∷ ks) [] = []
+chunksFrom c p j s t (k ∷ ks) (a ∷ xs) = chunkOn c p j s t k a ∷ chunksFrom c p j s (sendEnd (costsFor c p) t a) ks xs
 
 -- the lines of a job's booking, in chunk order
 abbrev pub linesOf : FarmCosts → Job → List Chunk
-linesOf c j = chunksFrom (ownCosts c j) (j .number) (j .show) (j .booking .start) (chosen (j .booking)) (units (j .booking))
+linesOf c j = chunksFrom c (j .compute) (j .number) (j .show) (j .booking .start) (chosen (j .booking)) (units (j .booking))
 
 -- a job's finish: the latest of its chunks'
 abbrev pub finishOf : FarmCosts → Job → ℕ
@@ -82,8 +96,8 @@ abbrev pub placed : ℕ → List Chunk → List Span
 placed f xs = map (λ (x : Chunk). record { from = f; chunk = x }) xs
 
 -- the spans of shares xs on nodes ks of a job that starts at f, the first send beginning at t
-abbrev pub spansFrom : Costs → ℕ → ℕ → ℕ → ℕ → List ℕ → List ℕ → List Span
-spansFrom c j s f t ks xs = placed f (chunksFrom c j s t ks xs)
+abbrev pub spansFrom : FarmCosts → ℕ → ℕ → ℕ → ℕ → ℕ → List ℕ → List ℕ → List Span
+spansFrom c p j s f t ks xs = placed f (chunksFrom c p j s t ks xs)
 
 -- the spans of a job's booking
 abbrev pub spansOf : FarmCosts → Job → List Span

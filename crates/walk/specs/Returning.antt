@@ -7,16 +7,13 @@ use native.Mathlib.Omega.{arith}
 use native.Mathlib.Nat.{mul-add}
 use Rattle.limits.specs.declared.FarmCosts.{FarmCosts}
 use Rattle.shares.specs.Model.{sendEnd, chunkFinish}
+use Rattle.booking.specs.Best.{chosen, units}
 use Rattle.walk.specs.declared.Job.{Job}
 use Rattle.walk.specs.declared.Terms.{Terms}
 use Rattle.walk.specs.declared.Busy.{Busy}
-use Rattle.walk.specs.Model.{costsFor, busyAfter, plan, booksAll}
+use Rattle.walk.specs.Model.{costsFor, computeEnd, chunkOn, chunksFrom, after, afters, step, busyAfter, plan, booksAll}
 
 -- ---- A chunk
-
--- the farm's costs without the way back
-abbrev pub withoutReturn : FarmCosts → FarmCosts
-withoutReturn c = record { send = c .send; compute = c .compute; linksetup = c .linksetup; nodesetup = c .nodesetup; returning = 0 }
 
 module _ (c : FarmCosts) (p t a : ℕ) where
   -- The send takes ST + units × m: nothing comes back on the link.
@@ -27,12 +24,12 @@ module _ (c : FarmCosts) (p t a : ℕ) where
   pub rest-is : chunkFinish (costsFor c p) t a ≡ sendEnd (costsFor c p) t a + (c .nodesetup + a * (p + c .returning))
   rest-is = refl
 
-  -- The way back comes last: the chunk is computed as if there were none, and is back units × r ticks later.
-  pub back-last : chunkFinish (costsFor c p) t a ≡ chunkFinish (costsFor (withoutReturn c) p) t a + a * c .returning
+  -- The way back comes last: the chunk is back units × r ticks after the end of computing.
+  pub back-last : chunkFinish (costsFor c p) t a ≡ computeEnd c p t a + a * c .returning
   back-last = omega (arith, mul-add a p (c .returning))
 
   -- Where r is 0, the time after the send is SC + units × p, as before.
-  pub none-back : c .returning ≡ 0 → chunkFinish (costsFor c p) t a ≡ sendEnd (costsFor c p) t a + (c .nodesetup + a * p)
+  pub none-back : c .returning ≡ 0 → chunkFinish (costsFor c p) t a ≡ computeEnd c p t a
   none-back e = let q : p + c .returning ≡ p = omega arith in rw q
 
 -- Where r is 0, a job's costs are the farm's with its compute cost, and so all that is worked out from them is what it was.
@@ -40,6 +37,10 @@ pub none-returned : (c : FarmCosts) (p : ℕ) → c .returning ≡ 0 → costsFo
 none-returned c p e = let q : p + c .returning ≡ p = omega arith in rw q
 
 -- ---- A walk
+
+-- the farm's costs without the way back
+abbrev pub withoutReturn : FarmCosts → FarmCosts
+withoutReturn c = record { send = c .send; compute = c .compute; linksetup = c .linksetup; nodesetup = c .nodesetup; returning = 0 }
 
 -- a job whose units take r ticks longer to compute
 abbrev pub dearer : ℕ → Job → Job
@@ -53,15 +54,30 @@ termsWithout w = record { costs = withoutReturn (w .costs); nodes = w .nodes; cl
 pub as-dearer : (c : FarmCosts) (p : ℕ) → costsFor (withoutReturn c) (p + c .returning) ≡ costsFor c p
 as-dearer c p = let q : p + c .returning + 0 ≡ p + c .returning = omega arith in rw q
 
+-- The free times that chunks leave go by their sends and finishes, and so by p + r alone.
+afters-dearer : (c : FarmCosts) (p j s t : ℕ) (b : Busy) (ks xs : List ℕ) → afters b (chunksFrom (withoutReturn c) (p + c .returning) j s t ks xs) ≡ afters b (chunksFrom c p j s t ks xs)
+unfolding chunksFrom afters
+afters-dearer c p j s t b [] [] = refl
+afters-dearer c p j s t b [] (a ∷ xs) = refl
+afters-dearer c p j s t b (k ∷ ks) [] = refl
+afters-dearer c p j s t b (k ∷ ks) (a ∷ xs) =
+    let q : p + c .returning + 0 ≡ p + c .returning = omega arith in
+    rw q (afters-dearer c p j s (sendEnd (costsFor c p) t a) (after b (chunkOn c p j s t k a)) ks xs)
+
+busy-dearer : (w : Terms) (b : Busy) (j : Job) → busyAfter (termsWithout w) b (dearer (w .costs .returning) j) ≡ busyAfter w b j
+busy-dearer w b j =
+    let k = step w b j .booking in
+    rw (as-dearer (w .costs) (j .compute)) (afters-dearer (w .costs) (j .compute) (j .number) (j .show) (k .start) b (chosen k) (units k))
+
 -- **A larger p.** A walk plans its jobs as the walk without a way back plans them where each unit takes r ticks longer to compute: the same starts, nodes and
 -- shares, and so the same free times.
 pub plan-dearer : (w : Terms) (b : Busy) (js : List Job) → plan (termsWithout w) b (map (dearer (w .costs .returning)) js) ≡ map (dearer (w .costs .returning)) (plan w b js)
 unfolding plan
 plan-dearer w b [] = refl
-plan-dearer w b (j ∷ js) = rw (as-dearer (w .costs) (j .compute), plan-dearer w (busyAfter w b j) js)
+plan-dearer w b (j ∷ js) = rw (busy-dearer w b j, as-dearer (w .costs) (j .compute), plan-dearer w (busyAfter w b j) js)
 
 -- So it books them all exactly where that walk does.
 pub books-dearer : (w : Terms) (b : Busy) (js : List Job) → booksAll (termsWithout w) b (map (dearer (w .costs .returning)) js) ≡ booksAll w b js
 unfolding booksAll
 books-dearer w b [] = refl
-books-dearer w b (j ∷ js) = rw (as-dearer (w .costs) (j .compute), books-dearer w (busyAfter w b j) js)
+books-dearer w b (j ∷ js) = rw (busy-dearer w b j, as-dearer (w .costs) (j .compute), books-dearer w (busyAfter w b j) js)

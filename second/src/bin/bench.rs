@@ -1,12 +1,14 @@
-//! `bench PROGRAM [BEFORE [FILTER...]]` times a program, `second` and
-//! `second --whole` on the same long days, taking turns, and compares medians of
-//! time and peak resident memory. BEFORE is an earlier build of the program; it
-//! takes its turn in the same run, and the line also says how many times quicker the
-//! program is than that build, and its memory beside that build's. It is left out of
-//! a day that it answers otherwise, as a build from before a request may. FILTER, a
-//! command with its arguments, turns a day into one that BEFORE reads, for a request
-//! that changed how lines are written. The program itself must write the same bytes
-//! as `second` on every day and end well.
+//! `bench PROGRAM [BEFORE [FILTER...] [-- ANSWER_FILTER...]]` times a program,
+//! `second` and `second --whole` on the same long days, taking turns, and compares
+//! medians of time and peak resident memory. BEFORE is an earlier build of the
+//! program; it takes its turn in the same run, and the line also says how many times
+//! quicker the program is than that build, and its memory beside that build's. It is
+//! left out of a day that it answers otherwise, as a build from before a request may.
+//! FILTER, a command with its arguments, turns a day into one that BEFORE reads, for a
+//! request that changed how lines are written. ANSWER_FILTER, another one, turns
+//! today's answers into those that BEFORE should give, for a request that changed how
+//! answers are written. The program itself must write the same bytes as `second` on
+//! every day and end well.
 
 use second::long_days::{long_days, LongDay};
 use second::random::Random;
@@ -16,6 +18,12 @@ use std::path::{Path, PathBuf};
 use std::process::{Command, ExitCode, Output, Stdio};
 use std::sync::mpsc;
 use std::time::{Duration, Instant};
+
+const USAGE: &str = "\
+bench PROGRAM [BEFORE [FILTER...] [-- ANSWER_FILTER...]]
+  BEFORE         an earlier build of PROGRAM
+  FILTER         a command that turns a day into one that BEFORE reads
+  ANSWER_FILTER  a command that turns today's answers into those that BEFORE gives";
 
 const REPETITIONS: usize = 15;
 
@@ -29,29 +37,34 @@ struct Programs<'a> {
     before: Option<&'a Path>,
     /// Empty where the earlier build reads each day as it is.
     filter: &'a [PathBuf],
+    /// Empty where it should write the same answers.
+    answer_filter: &'a [PathBuf],
 }
 
-/// A day in a file, which goes away with the value.
-struct DayFile {
+/// Bytes in a file, which goes away with the value.
+struct InputFile {
     path: PathBuf,
     bytes: Vec<u8>,
 }
 
-/// A program on a day.
+/// A program on a day, and the answers that it should give.
 #[derive(Clone, Copy)]
 struct Turn<'a> {
     program: &'a Path,
     argument: Option<&'static str>,
-    day: &'a DayFile,
+    day: &'a InputFile,
+    answers: &'a [u8],
 }
 
 fn main() -> ExitCode {
     let arguments: Vec<PathBuf> = std::env::args_os().skip(1).map(PathBuf::from).collect();
-    let Some((program, rest)) = arguments.split_first() else {
-        eprintln!("bench PROGRAM [BEFORE [FILTER...]]");
+    let mut parts = arguments.splitn(2, |argument| argument.as_os_str() == "--");
+    let first_part = parts.next().unwrap_or_default();
+    let Some((program, rest)) = first_part.split_first() else {
+        eprintln!("{USAGE}");
         return ExitCode::FAILURE;
     };
-    match bench(program, rest) {
+    match bench(program, rest, parts.next().unwrap_or_default()) {
         Ok(()) => ExitCode::SUCCESS,
         Err(error) => {
             eprintln!("{error}");
@@ -60,13 +73,14 @@ fn main() -> ExitCode {
     }
 }
 
-fn bench(program: &Path, rest: &[PathBuf]) -> io::Result<()> {
+fn bench(program: &Path, rest: &[PathBuf], answer_filter: &[PathBuf]) -> io::Result<()> {
     let second = std::env::current_exe()?.with_file_name("second");
     let programs = Programs {
         program,
         second: &second,
         before: rest.first().map(PathBuf::as_path),
         filter: rest.get(1..).unwrap_or_default(),
+        answer_filter,
     };
     for day in long_days() {
         println!("{}", programs.on_day(day)?);
@@ -79,20 +93,22 @@ impl Programs<'_> {
     /// so its time would say nothing.
     fn on_day(&self, day: LongDay) -> io::Result<String> {
         let LongDay { name, lines, bytes } = day;
-        let day = DayFile::new("day", bytes)?;
-        let day_before = DayFile::new("day-before", self.filtered(&day)?)?;
-        let program = Turn::new(self.program, &day);
-        let second = Turn::new(self.second, &day);
-        let before = self.before.map(|before| Turn::new(before, &day_before));
-        let answers = second.output()?.stdout;
-        if !program.gives(&answers)? {
+        let day = InputFile::new("day", bytes)?;
+        let answers = output(Command::new(self.second).stdin(day.open()?))?.stdout;
+        let day_before = InputFile::new("day-before", filtered(self.filter, &day.bytes)?)?;
+        let answers_before = filtered(self.answer_filter, &answers)?;
+        let program = Turn::new(self.program, &day, &answers);
+        let second = Turn::new(self.second, &day, &answers);
+        let turn_before = |before| Turn::new(before, &day_before, &answers_before);
+        let before = self.before.map(turn_before);
+        if !program.answers_well()? {
             let program = self.program.display();
             let error = format!("{name}: {program} does not answer as second does");
             return Err(io::Error::other(error));
         }
-        let alike = before.map_or(Ok(true), |before| before.gives(&answers))?;
+        let alike = before.map_or(Ok(true), Turn::answers_well)?;
         let before = before.filter(|_| alike);
-        let figures = measure(program, second, before, answers.len())?;
+        let figures = measure(program, second, before)?;
         let end = if alike {
             ""
         } else {
@@ -100,32 +116,36 @@ impl Programs<'_> {
         };
         Ok(format!("{name}: {lines} lines; {figures}{end}"))
     }
-
-    /// The bytes of a day as the earlier build reads it.
-    fn filtered(&self, day: &DayFile) -> io::Result<Vec<u8>> {
-        let Some((program, arguments)) = self.filter.split_first() else {
-            return Ok(day.bytes.clone());
-        };
-        let mut command = Turn::new(program, day).command()?;
-        let filtered = output(command.args(arguments))?;
-        if !filtered.status.success() {
-            let error = format!("{} does not end well", program.display());
-            return Err(io::Error::other(error));
-        }
-        Ok(filtered.stdout)
-    }
 }
 
-impl DayFile {
+/// What a filter makes of the bytes, or the same bytes where there is none.
+fn filtered(filter: &[PathBuf], bytes: &[u8]) -> io::Result<Vec<u8>> {
+    let Some((program, arguments)) = filter.split_first() else {
+        return Ok(bytes.to_vec());
+    };
+    let input = InputFile::new("unfiltered", bytes.to_vec())?;
+    let filtered = output(Command::new(program).args(arguments).stdin(input.open()?))?;
+    if !filtered.status.success() {
+        let error = format!("{} does not end well", program.display());
+        return Err(io::Error::other(error));
+    }
+    Ok(filtered.stdout)
+}
+
+impl InputFile {
     fn new(name: &str, bytes: Vec<u8>) -> io::Result<Self> {
         let name = format!("bench-{}-{name}", std::process::id());
         let path = std::env::temp_dir().join(name);
         fs::write(&path, &bytes)?;
-        Ok(DayFile { path, bytes })
+        Ok(InputFile { path, bytes })
+    }
+
+    fn open(&self) -> io::Result<File> {
+        File::open(&self.path)
     }
 }
 
-impl Drop for DayFile {
+impl Drop for InputFile {
     fn drop(&mut self) {
         // A file that is gone already is no harm.
         let _ = fs::remove_file(&self.path);
@@ -133,28 +153,26 @@ impl Drop for DayFile {
 }
 
 impl<'a> Turn<'a> {
-    fn new(program: &'a Path, day: &'a DayFile) -> Self {
+    fn new(program: &'a Path, day: &'a InputFile, answers: &'a [u8]) -> Self {
         Turn {
             program,
             argument: None,
             day,
+            answers,
         }
     }
 
     fn command(self) -> io::Result<Command> {
         let mut command = Command::new(self.program);
         command.args(self.argument);
-        command.stdin(File::open(&self.day.path)?);
+        command.stdin(self.day.open()?);
         Ok(command)
     }
 
-    fn output(self) -> io::Result<Output> {
-        output(&mut self.command()?)
-    }
-
-    fn gives(self, answers: &[u8]) -> io::Result<bool> {
-        let given = self.output()?;
-        Ok(given.stdout == answers && given.status.success())
+    /// Whether it gives the answers and ends well.
+    fn answers_well(self) -> io::Result<bool> {
+        let given = output(&mut self.command()?)?;
+        Ok(given.stdout == self.answers && given.status.success())
     }
 }
 
@@ -165,13 +183,8 @@ fn output(command: &mut Command) -> io::Result<Output> {
     output.map_err(|error| io::Error::other(format!("{program}: {error}")))
 }
 
-/// The figures of the programs on a day that all of them answer with so many bytes.
-fn measure(
-    program: Turn,
-    second: Turn,
-    before: Option<Turn>,
-    answer_bytes: usize,
-) -> io::Result<String> {
+/// The figures of the programs on a day that all of them answer well.
+fn measure(program: Turn, second: Turn, before: Option<Turn>) -> io::Result<String> {
     let whole = Turn {
         argument: Some("--whole"),
         ..second
@@ -180,8 +193,8 @@ fn measure(
     let turns: Vec<Turn> = [program, second, whole].into_iter().chain(before).collect();
     let times = medians(&turns)?;
     let (program_time, second_time, whole_time) = (times[0], times[1], times[2]);
-    let program_memory = peak_memory(program, answer_bytes)?;
-    let second_memory = peak_memory(second, answer_bytes)?;
+    let program_memory = peak_memory(program)?;
+    let second_memory = peak_memory(second)?;
     let figures = format!(
         "program {:.2} ms, second {:.2} ms, whole walks {:.2} ms; \
          times {:.2}, beside whole walks {:.2}; \
@@ -196,7 +209,7 @@ fn measure(
     let (Some(before), Some(before_time)) = (before, times.get(3)) else {
         return Ok(figures);
     };
-    let before_memory = peak_memory(before, answer_bytes)?;
+    let before_memory = peak_memory(before)?;
     Ok(format!(
         "{figures}; before {:.2} ms, times quicker {:.2}; \
          before {before_memory} kB, memory beside before {:.2}",
@@ -245,7 +258,7 @@ fn time(turn: Turn) -> io::Result<f64> {
 /// The peak resident kilobytes. The day comes through a pipe that stays open,
 /// so the program waits for more when all is answered and can be looked at; the
 /// peak that `wait4` gives would count this process's own memory at the start.
-fn peak_memory(turn: Turn, answer_bytes: usize) -> io::Result<u64> {
+fn peak_memory(turn: Turn) -> io::Result<u64> {
     let mut command = turn.command()?;
     let mut child = command
         .stdin(Stdio::piped())
@@ -256,6 +269,7 @@ fn peak_memory(turn: Turn, answer_bytes: usize) -> io::Result<u64> {
         return Err(io::Error::other("no pipe"));
     };
     let (all_read, is_all_read) = mpsc::channel();
+    let answer_bytes = turn.answers.len();
     let reader = std::thread::spawn(move || {
         let mut block = vec![0; 1 << 16];
         let mut read = 0;

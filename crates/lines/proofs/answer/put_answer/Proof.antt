@@ -14,7 +14,7 @@ line-of-requires c κs = search needs
 put-requires : tie.Need-put-requires
 put-requires c κs =
     let a = c .before .before .before .args in
-    let few : c .line-of .result .count ≤ 7 = rw (c .line-of .ensures) (line-count (a .answer)) in
+    let few : c .line-of .result .count ≤ 8 = rw (c .line-of .ensures) (line-count (a .answer)) in
     (few, omega arith)
 
 same-length : tie.Need-same-length

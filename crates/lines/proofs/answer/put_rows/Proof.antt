@@ -12,7 +12,7 @@ use Rattle.lines.proofs.answer.put_rows.Tie as tie
 
 abbrev Inv-loop : tie.InvT-loop
 Inv-loop out₀ at rows count i₀ place₀ out i place =
-    (i ≤ count) × WroteWithin (i * 160) (rowTexts (take i rows)) at out₀ out place × (length out ≡ length out₀)
+    (i ≤ count) × WroteWithin (i * 176) (rowTexts (take i rows)) at out₀ out place × (length out ≡ length out₀)
 
 abbrev μ-loop : tie.MeasureT-loop
 μ-loop out₀ at rows count i₀ place₀ out i place = count - i
@@ -46,7 +46,7 @@ loop-again c =
     let p = c .before .before .put in
     let k = c .before .before .before .row-line in
     let w = l .inv .1 .within in
-    let z : WroteWithin ((l .i + 1) * 160) (rowTexts (take (l .i + 1) (a .rows .now))) (a .at) (a .out .now) (p .last .0) (p .result) =
+    let z : WroteWithin ((l .i + 1) * 176) (rowTexts (take (l .i + 1) (a .rows .now))) (a .at) (a .out .now) (p .last .0) (p .result) =
     row-next (a .rows .now) (l .i) (k .result) (omega (arith, c .before .before .before .before .before .before .before .before .before .pre .1)) (omega arith) (k .ensures .1) (l .inv .1) (p .ensures) in
     (omega arith, z, wrote-length (z .wrote) (omega (arith, z .within)))
 
@@ -58,7 +58,7 @@ returns c =
     let a = c .before .before .before .args in
     let l = c .before .loop in
     let e : l .i ≡ a .count = omega arith in
-    subst (λ (n : ℕ). WroteWithin (n * 160) (rowTexts (take n (a .rows .now))) (a .at) (now (a .out)) (l .out) (l .place)) e (l .inv .1)
+    subst (λ (n : ℕ). WroteWithin (n * 176) (rowTexts (take n (a .rows .now))) (a .at) (now (a .out)) (l .out) (l .place)) e (l .inv .1)
 
 pub put-rows-spec : {M : Type 1} → statement M
 put-rows-spec =

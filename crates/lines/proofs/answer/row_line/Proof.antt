@@ -8,7 +8,7 @@ use Rattle.lines.proofs.answer.row_line.Statement.{statement}
 use Rattle.lines.proofs.answer.row_line.Tie as tie
 
 returns : tie.Need-returns
-returns c = (omega arith, ap (lineText word.Chunk) (take-all 7 (c .args .row) (omega arith)))
+returns c = (omega arith, ap (lineText word.Chunk) (take-all 8 (c .args .row) (omega arith)))
 
 pub row-line-spec : {M : Type 1} → statement M
 row-line-spec = tie.close (tie.spec returns)

@@ -31,7 +31,7 @@ use Rattle.protocol.proofs.blocks.answer_block.Tie as tie
 
 abbrev Inv-loop : tie.InvT-loop
 Inv-loop block from rows₀ out₀ last farm₀ rest₀ next₀ at₀ rows out farm rest next at =
-    DayAt farm₀ rest₀ block from out₀ farm rest next at out × (last + 164000 ≡ length out₀)
+    DayAt farm₀ rest₀ block from out₀ farm rest next at out × (last + 180400 ≡ length out₀)
 
 abbrev μ-loop : tie.MeasureT-loop
 μ-loop block from rows₀ out₀ last farm₀ rest₀ next₀ at₀ rows out farm rest next at = length block - next
@@ -100,7 +100,7 @@ row-is t = t .before .row-behind .ensures
 abbrev Onward : Turn → Farm → ℕ → List ℕ → Type 0
 Onward t later place back =
     let a = entry t .args in
-    DayAt (a .session .farm) (a .session .rest) (a .block .now) (a .from) (a .out .now) later (record { fill = 0; bytes = line t .loop .rest .bytes }) (end t + 1) place back × (length (a .out .now) - 164000 + 164000 ≡ length (a .out .now))
+    DayAt (a .session .farm) (a .session .rest) (a .block .now) (a .from) (a .out .now) later (record { fill = 0; bytes = line t .loop .rest .bytes }) (end t + 1) place back × (length (a .out .now) - 180400 + 180400 ≡ length (a .out .now))
 
 -- where the end of a line is found
 abbrev Found : Type 0
@@ -119,12 +119,12 @@ module _ (t : Turn) where
   less = omega (arith, t .before .before .before .before .before .find .ensures, inside)
 
   -- The largest answer fits.
-  room : line t .loop .at + 164000 ≤ length (line t .loop .out)
+  room : line t .loop .at + 180400 ≤ length (line t .loop .out)
   room = omega (arith, line t .loop .inv .0 .size, line t .loop .inv .1, t .before .before .before .before .before .before .if2 .left)
 
   -- The line ends and is answered.
   answers : {x : Answered} {later : Farm} {most place : ℕ} {back : List ℕ} → byRow (farm t) (row t) ≡ x → later ≡ x .farm
-      → WroteWithin most (x .text) (line t .loop .at) (line t .loop .out) back place → most ≤ 164000 → Onward t later place back
+      → WroteWithin most (x .text) (line t .loop .at) (line t .loop .out) back place → most ≤ 180400 → Onward t later place back
   answers b d p h =
       let i = line t .loop .inv in
       let said = kept-row (farm t) (line t .loop .rest) (stretch (line t .loop .next) (end t) (entry t .args .block .now)) ∙ sym (ap (byRow (farm t)) (row-is t)) ∙ b in

@@ -71,7 +71,7 @@ derived w κs qs bs =
           -- c = chunk_at(costs, job, i, from); out[at + i] = c
           call W to-chunk 8 [] (record { pos = 3; st = []; d = 0; at = λ x. x }, (record { pos = 4; st = []; d = 0; at = λ x. x }, (vAt 7 (λ x. x), (vAt 6 (λ x. x), tt)))) ((copied W S.costs, refl), ((copied W S.job, refl), ((num W, refl), ((num W, refl), tt)))) (free W (type S.chunk)) tt refl ▸
           op W u64 (add unsigned) 10 (oAt 2 word int) (oAt 7 word int) (num W, refl) (num W, refl) (free W word) refl (λ u. refl) (λ u. tt) ▸
-          op W u64 (mul unsigned) 11 (oAt 10 word int) (oInt w64 56) (num W, refl) tt (free W word) refl (λ u. refl) (λ u. tt) ▸
+          op W u64 (mul unsigned) 11 (oAt 10 word int) (oInt w64 64) (num W, refl) tt (free W word) refl (λ u. refl) (λ u. tt) ▸
           op W sPtr offset 12 (oFld 1 (field 0 ∷ []) slice.ref 0 ptrVal) (oAt 11 word int) (slice.pointer W, refl) (num W, refl) (free W tyPtr) refl (λ u. refl) (λ u. tt) ▸
           step W (slice.store W 1 12 8 (lease (κs .0) (qs .0)) (λ u. u .1 .1 .1 .1 .1 .1 .1 .1 .1 .1 .0) (λ x. x) (λ x. x) (λ x. x) (λ x. x) (slice.the-slice W) (slice.the-pointer W) (copied W S.chunk) refl tt refl refl) ▸
           -- from = c.sent; i = i + 1
@@ -93,7 +93,7 @@ asked w κs qs a good within bs =
     let job : Job = a .1 .1 .1 .0 in
     let count : ℕ = job .booking .count in
     let sends : Sends costs job = within .0 in
-    let bytes : length (now out) * 56 < 2 ^ 63 = good .0 .1 in
+    let bytes : length (now out) * 64 < 2 ^ 63 = good .0 .1 in
     let room : at + count ≤ length (now out) = within .1 in (
       λ _. tt,
       λ n. (
