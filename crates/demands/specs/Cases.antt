@@ -1,5 +1,5 @@
--- Cases A to M of document 01, "Windows to try", cases of a job's own compute cost, of a withdrawal, of the way back and of quotes, each a table and a theorem
--- about the model.
+-- Cases A to M of document 01, "Windows to try", cases of a job's own compute cost, of a withdrawal, of the way back, of quotes and of the end of computing, each
+-- a table and a theorem about the model.
 -- The checker works each row out.
 use Prim.Native.Nat.{ℕ, _+_}
 use mathlib.Core.Path.{_≡_, refl}
@@ -265,6 +265,11 @@ quoteCases =
     ∷ afterListed (map call.quote quoted) 21 (no 8)
     ∷ []
 
+-- The end of computing, document 02 (vii): jobs of 6 units at the farm's compute cost of 5, at the same cost given, at 1 and at 9, where a unit takes 3 ticks to
+-- come back
+abbrev pub fourCosts : List Call
+fourCosts = call.offer (offerOf 1 6 200) ∷ call.offer (offerWith 1 6 200 5) ∷ call.offer (offerWith 2 6 200 1) ∷ call.offer (offerWith 2 6 200 9) ∷ []
+
 -- every row comes out as expected
 pub cases-right : All Right cases
 unfolding run made outcome openFarm offerAsked offerSaid offerFarm ofNumber passesOf countsWithin timesWithin waitingPass costsWithin allAtMost allAtLeast jobsPass jobPasses jobWithin jobKept sharesKept noneOf allDiffer fitAll spansOfAll chunksFrom afters keysBy plan booksAll noLater insertKey sortOnto nodeKeys ranked search bookingOf bookedAt bookOf finish sum first left capacity cut greedy earliest
@@ -308,3 +313,13 @@ pub old-plan-stands : issued (offerFarm (farmOf oldJobFails) (oldJobFails .offer
     ∷ []
 unfolding made openFarm offerAsked offerSaid offerFarm hasNumber ofNumber without withdrawSaid withdrawFarm keep linesOfAll passesOf countsWithin timesWithin waitingPass costsWithin allAtMost allAtLeast jobsPass jobPasses jobWithin jobKept sharesKept noneOf allDiffer fitAll spansOfAll chunksFrom afters keysBy plan booksAll noLater insertKey sortOnto nodeKeys ranked search bookingOf bookedAt bookOf finish sum first left capacity cut greedy earliest
 old-plan-stands = refl
+
+-- Each of the four has computed SC + 6 × its own p after its send, and is back 18 ticks later.
+pub computing-ended : issued (made (openFarm 3 (costsOf 1 5 2 4 3) (0 ∷ 0 ∷ [])) fourCosts) 200
+    ≡ record { job = 1; show = 1; node = 1; units = 6; start = 0; sent = 8; finish = 60; computed = 42 }
+    ∷ record { job = 2; show = 1; node = 2; units = 6; start = 8; sent = 16; finish = 68; computed = 50 }
+    ∷ record { job = 3; show = 2; node = 3; units = 6; start = 16; sent = 24; finish = 52; computed = 34 }
+    ∷ record { job = 4; show = 2; node = 3; units = 6; start = 52; sent = 60; finish = 136; computed = 118 }
+    ∷ []
+unfolding made openFarm offerAsked offerSaid offerFarm hasNumber ofNumber without withdrawSaid withdrawFarm keep linesOfAll passesOf countsWithin timesWithin waitingPass costsWithin allAtMost allAtLeast jobsPass jobPasses jobWithin jobKept sharesKept noneOf allDiffer fitAll spansOfAll chunksFrom afters keysBy plan booksAll noLater insertKey sortOnto nodeKeys ranked search bookingOf bookedAt bookOf finish sum first left capacity cut greedy earliest
+computing-ended = refl

@@ -18,7 +18,7 @@ use Prim.Native.Nat.{ℕ, zero, suc, _+_, _-_}
 use native.Mathlib.Omega.{arith}
 use borrow.Author.Tests.{eqb-false}
 use lib.Dec.{leb, ltb, eqb}
-use lib.ListN.{length, drop}
+use lib.ListN.{length, getD, drop}
 use Rattle.limits.specs.declared.FarmCosts.{FarmCosts}
 use Rattle.lists.specs.Laws.{All, all-map, all-both, all-of, at-member, perm-all}
 use Rattle.lists.specs.Keep.{keep-all}
@@ -26,7 +26,9 @@ use Rattle.booking.specs.Best.{chosen, units}
 use Rattle.walk.specs.declared.Job.{Job}
 use Rattle.walk.specs.declared.Chunk.{Chunk}
 use Rattle.walk.specs.Order.{by-start-perm}
-use Rattle.walk.specs.EndOfComputing.{Computes, job-computes}
+use Rattle.walk.specs.Model.{Computes}
+use Rattle.walk.specs.EndOfComputing.{job-computes}
+use Rattle.timetable.specs.Model.{rowOf}
 use Rattle.planner.specs.declared.Farm.{Farm}
 use Rattle.answers.specs.declared.Offer.{Offer}
 use Rattle.planner.specs.Model.{greatest, between, costsWithin, linesOf, byStart, waitingOf, Sized}
@@ -246,6 +248,20 @@ withdraw-leaves f n = go (passesOf f) (hasNumber n (waitingOf f))
     go false b e = absurd (omega arith)
 
 -- ---- A grant writes its lines and nothing else
+
+-- A record is its eight numbers: two that differ in none of them are the same. So what follows, and demand 3, speak of all eight fields.
+pub record-is-row : (x y : Chunk) → rowOf x ≡ rowOf y → x ≡ y
+record-is-row x y e =
+    ap (λ (l : List ℕ). record {
+      job = getD l 0 0;
+      show = getD l 1 0;
+      node = getD l 2 0;
+      units = getD l 3 0;
+      start = getD l 4 0;
+      sent = getD l 5 0;
+      finish = getD l 6 0;
+      computed = getD l 7 0;
+    }) e
 
 -- After a granted clock move the lent memory is the lines with its former contents behind them.
 pub move-writes : (f : Farm) (t : ℕ) (m : List Chunk) → moveSaid f t (length m) .number ≡ 0

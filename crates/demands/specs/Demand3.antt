@@ -11,8 +11,10 @@
 --   document 02 (iii): "A chunk finishes when its audio is back, so the time after its send is SC + units × (p + r). Node free times and held ticks use
 --    that finish."                                                                    each (`finish` of `Fulfils`; `rest-is` in walk/specs/Returning.antt),
 --                                                                                     free, held
+--   document 02 (vii): "the end of computing, which is send end + SC + units × p. It lies after the send end and at or before the finish."
+--                                                                                     each (`computed` of `Fulfils`), of chunks issued and booked
 --   "and have been issued once the clock has reached that deadline."                  due
---   "No later call alters an issued chunk."                                           unaltered
+--   "No later call alters an issued chunk."                                           unaltered; a record is its eight numbers (`record-is-row`, Demand1)
 --   "No two chunks, issued or booked, are on one node, and no two of their sends on the link, in the same tick."   apart
 --   "After the list each show's held ticks equal the sum over its issued chunks."     held
 --   document 02 (vi): "A chunk's held ticks are now its finish minus its own send start."   held (`holds` in timetable/specs/Model.antt; what a job's chunks

@@ -77,7 +77,7 @@ pub record DayDemand3 (before : List (List ℕ)) (l : List ℕ) (after : List (L
   -- The farm after them is the farm that the calls leave.
   pub farm : farmAfter unopened (before ++ l ∷ after) ≡ run (opening (farmOn l)) (callsIn after) .farm
   -- The farm's costs are those on the `farm` line, wherever the others end: its p is the compute cost of a `job` line that gives none, and its r is in
-  -- the finish of every chunk.
+  -- the finish of every chunk, and not in its end of computing.
   pub costs : (part rest : List (List ℕ)) → after ≡ part ++ rest → farmAfter unopened (before ++ l ∷ part) .costs ≡ costsIn (numbersOf l)
   -- The `chunk` lines printed are the chunks that the calls issue, in order.
   pub chunks : chunksIn (prints unopened (before ++ l ∷ after)) ≡ run (opening (farmOn l)) (callsIn after) .lines

@@ -1,8 +1,7 @@
--- When encoding ended, document 02 (vii): where the end of computing lies in a chunk.
+-- When encoding ended, document 02 (vii): every chunk of at least 1 unit ends computing where `Computes` says.
 use mathlib.Core.Path.{_≡_, refl, ap}
 use mathlib.Core.List.{List, [], _∷_}
-use mathlib.Core.Logic.{_↔_}
-use Prim.Native.Nat.{ℕ, _+_, _*_, _≤_, _<_}
+use Prim.Native.Nat.{ℕ, _*_, _≤_}
 use native.Mathlib.Omega.{arith}
 use native.Mathlib.Nat.{mul-le-mul-left, mul-le-mul-right}
 use Rattle.lists.specs.Laws.{All}
@@ -11,17 +10,8 @@ use Rattle.shares.specs.Model.{sendEnd}
 use Rattle.shares.specs.Lists.{Positive}
 use Rattle.booking.specs.Best.{chosen, units}
 use Rattle.walk.specs.declared.Job.{Job}
-use Rattle.walk.specs.declared.Chunk.{Chunk}
-use Rattle.walk.specs.Model.{costsFor, chunkOn, chunksFrom, linesOf}
+use Rattle.walk.specs.Model.{costsFor, chunkOn, chunksFrom, linesOf, Computes}
 use Rattle.walk.specs.Returning.{back-last}
-
--- a chunk's end of computing, its units taking p ticks each: the send's end, SC and units × p; after the send's end, at or before the finish, and equal to
--- it exactly when r is 0
-pub record Computes (c : FarmCosts) (p : ℕ) (x : Chunk) : Type 0 where
-  pub is : x .computed ≡ x .sent + (c .nodesetup + x .units * p)
-  pub after : x .sent < x .computed
-  pub within : x .computed ≤ x .finish
-  pub equal : (x .computed ≡ x .finish) ↔ (c .returning ≡ 0)
 
 module _ (c : FarmCosts) (p : ℕ) (some : 1 ≤ p) where
   -- So it is of a chunk of at least 1 unit.

@@ -4,6 +4,7 @@ use Prim.Native.Nat.{ℕ, suc, _+_, _*_, _-_, _≤_, _<_, max}
 use mathlib.Core.Path.{_≡_}
 use mathlib.Core.List.{List, [], _∷_, _++_, map}
 use mathlib.Core.Bool.{Bool, true, _&&_}
+use mathlib.Core.Logic.{_↔_}
 use lib.Dec.{leb}
 use lib.ListN.{length, getD, set}
 use Rattle.shares.specs.declared.Costs.{Costs}
@@ -81,6 +82,14 @@ chunksFrom c p j s t (k ∷ ks) (a ∷ xs) = chunkOn c p j s t k a ∷ chunksFro
 -- the lines of a job's booking, in chunk order
 abbrev pub linesOf : FarmCosts → Job → List Chunk
 linesOf c j = chunksFrom c (j .compute) (j .number) (j .show) (j .booking .start) (chosen (j .booking)) (units (j .booking))
+
+-- a chunk's end of computing, its units taking p ticks each: the send's end, SC and units × p; after the send's end, at or before the finish, and equal to
+-- it exactly when r is 0
+pub record Computes (c : FarmCosts) (p : ℕ) (x : Chunk) : Type 0 where
+  pub is : x .computed ≡ x .sent + (c .nodesetup + x .units * p)
+  pub after : x .sent < x .computed
+  pub within : x .computed ≤ x .finish
+  pub equal : (x .computed ≡ x .finish) ↔ (c .returning ≡ 0)
 
 -- a job's finish: the latest of its chunks'
 abbrev pub finishOf : FarmCosts → Job → ℕ
