@@ -22,7 +22,6 @@ use lib.ListN.{length, getD, drop}
 use Rattle.limits.specs.declared.FarmCosts.{FarmCosts}
 use Rattle.lists.specs.Laws.{All, all-map, all-both, all-of, at-member, perm-all}
 use Rattle.lists.specs.Keep.{keep-all}
-use Rattle.booking.specs.Best.{chosen, units}
 use Rattle.walk.specs.declared.Job.{Job}
 use Rattle.walk.specs.declared.Chunk.{Chunk}
 use Rattle.walk.specs.Order.{by-start-perm}
@@ -38,7 +37,7 @@ use Rattle.planner.specs.Clock.{startsBy, begun, issued, movedFarm, moveAsked, 
 use Rattle.demands.specs.CallLists.{quote, handed}
 use Rattle.demands.specs.BegunJobs.{lines-all}
 use Rattle.demands.specs.MovePasses.{Waiting, waiting-jobs}
-use Rattle.demands.specs.Outcome.{chunks-named}
+use Rattle.demands.specs.Outcome.{job-named}
 use Rattle.demands.specs.MoveAnswers.{move-is, move-stopped, shown-is, shown-stopped}
 
 -- ---- Refused exactly where the papers name a refusal
@@ -301,7 +300,7 @@ waiting-compute f z e =
     perm-all (λ (j : Job). All (LineOf f) (linesOf (f .costs) j)) (by-start-perm (waitingOf f)) (all-of (waitingOf f) (λ j m.
     let h = at-member (Waiting f) m (waiting-jobs f z e) in
     all-both (λ x n k. record { job = j; among = m; number = n .0; computes = k }) (linesOf (f .costs) j)
-    (chunks-named (f .costs) (j .compute) (j .number) (j .show) (j .booking .start) (chosen (j .booking)) (units (j .booking)))
+    (job-named (f .costs) j)
     (job-computes (f .costs) j (h .within .compute .0) (h .sound .each))))
 
 -- Each line of a granted clock move says it: the send's end, SC and units × p, after the send's end, at or before the finish.

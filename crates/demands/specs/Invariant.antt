@@ -12,14 +12,14 @@ use Rattle.queue.specs.Numbers.{of-number-has}
 use Rattle.limits.specs.declared.FarmCosts.{FarmCosts}
 use Rattle.shares.specs.Model.{sum, finish}
 use Rattle.shares.specs.Lists.{Positive}
-use Rattle.booking.specs.Best.{chosen, units}
+use Rattle.booking.specs.Best.{units}
 use Rattle.walk.specs.declared.Job.{Job}
 use Rattle.walk.specs.declared.Terms.{Terms}
 use Rattle.walk.specs.declared.Busy.{Busy}
 use Rattle.walk.specs.declared.Chunk.{Chunk}
 use Rattle.planner.specs.declared.Farm.{Farm}
 use Rattle.answers.specs.declared.Offer.{Offer}
-use Rattle.planner.specs.Model.{greatest, between, costsWithin, ownCosts, finishOf, Span, linesOf, spansOf, spansOfAll, Sized, afters, waitingOf, busyOf, termsOf, busyAfter, plan, Between}
+use Rattle.planner.specs.Model.{greatest, between, costsWithin, finishOf, Span, linesOf, spansOf, spansOfAll, Sized, afters, waitingOf, busyOf, termsOf, busyAfter, plan, Between}
 use Rattle.planner.specs.Passes.{passesOf}
 use Rattle.walk.specs.Chain.{Chain, chain-append, Proper, job-finish, afters-length}
 use Rattle.walk.specs.Order.{by-deadline-perm}
@@ -35,7 +35,7 @@ use Rattle.demands.specs.BegunJobs.{begun-left, lines-joined, lines-all,
 use Rattle.demands.specs.HeldTicks.{afters-within, sum-within, held-part, held-append, held-free, raised-held}
 use Rattle.demands.specs.WithdrawPasses.{leaves-others, withdrawn-waiting, withdrawn-sized, withdrawn-passes}
 use Rattle.demands.specs.MovePasses.{Waiting, moved-chain, begun-jobs, moved-waiting, moved-sized, moved-passes}
-use Rattle.demands.specs.Outcome.{Refused, taken, Takes, Leaves, Moves, outcome, chunks-named}
+use Rattle.demands.specs.Outcome.{Refused, taken, Takes, Leaves, Moves, outcome, job-named}
 
 -- ---- The invariant
 
@@ -349,7 +349,7 @@ module _ (w : History) (t : ℕ) (m : List Chunk) where
         lines-all (λ (x : Chunk). Between 1 (x .show) (length (f .held))) (f .costs) (begun f t)
         (all-map (λ j h.
         all-map (λ x e. (omega (arith, e .1, h .0 .within .show .0), omega (arith, e .1, h .0 .within .show .1, i .sized .held))) (linesOf (f .costs) j)
-        (chunks-named (f .costs) (j .compute) (j .number) (j .show) (j .booking .start) (chosen (j .booking)) (units (j .booking))))
+        (job-named (f .costs) j))
         (begun f t) (begun-jobs f (i .sized) (i .passes) t))
 
     moved-held : (s : ℕ) → Between 1 s 32 → heldBy (movedFarm (w .farm) t) s ≡ heldOf s (w .lines ++ issued (w .farm) t)

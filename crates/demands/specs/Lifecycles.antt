@@ -12,15 +12,15 @@ use lib.ListN.{length}
 use Rattle.lists.specs.Laws.{All, Differ, all-map, all-of, at-member, all-image, image-all, all-append, all-join, pairs-across, mem-left, mem-right, map-join, perm-all, perm-mem, perm-pairs, pairs-parts}
 use Rattle.limits.specs.declared.FarmCosts.{FarmCosts}
 use Rattle.shares.specs.Model.{sum, sendEnd, chunkFinish}
-use Rattle.shares.specs.Lists.{Positive}
 use Rattle.booking.specs.Best.{chosen, units}
 use Rattle.walk.specs.declared.Job.{Job}
 use Rattle.walk.specs.declared.Chunk.{Chunk}
 use Rattle.planner.specs.declared.Farm.{Farm}
 use Rattle.answers.specs.declared.Offer.{Offer}
-use Rattle.planner.specs.Model.{costsFor, Span, chunksFrom, linesOf, spansOfAll, Sized, waitingOf, busyOf, termsOf}
+use Rattle.planner.specs.Model.{costsFor, ownCosts, Span, chunksFrom, linesOf, spansOfAll, Sized, waitingOf, busyOf, termsOf}
 use Rattle.planner.specs.Passes.{passesOf}
 use Rattle.walk.specs.Chain.{chunks-finish}
+use Rattle.walk.specs.Chunks.{lines-each}
 use Rattle.walk.specs.EndOfComputing.{job-computes}
 use Rattle.walk.specs.Order.{by-deadline-perm}
 use Rattle.walk.specs.Plan.{plan-numbers}
@@ -34,7 +34,7 @@ use Rattle.demands.specs.BegunJobs.{begun-left, lines-all}
 use Rattle.queue.specs.Numbers.{numberOfJob, of-number-is, of-number-has}
 use Rattle.demands.specs.WithdrawPasses.{leaves-others, withdrawn-waiting, others-differ}
 use Rattle.demands.specs.MovePasses.{Waiting, waiting-jobs, waiting-differ, begun-jobs, moved-waiting}
-use Rattle.demands.specs.Outcome.{Refused, Takes, Leaves, Moves, outcome, chunks-named}
+use Rattle.demands.specs.Outcome.{Refused, Takes, Leaves, Moves, outcome, job-named}
 use Rattle.demands.specs.Invariant.{Whole, Inv, waiting-whole, plan-accepted, note-inv}
 
 -- ---- Membership
@@ -54,7 +54,7 @@ from-image f (x ∷ xs) m = ⊎-elim (λ e. record { it = x; among = List·Mem�
 
 -- A job's chunks name it.
 pub lines-named : (c : FarmCosts) (j : Job) → All (λ (y : Chunk). y .job ≡ j .number) (linesOf c j)
-lines-named c j = all-map (λ x h. h .0) (linesOf c j) (chunks-named c (j .compute) (j .number) (j .show) (j .booking .start) (chosen (j .booking)) (units (j .booking)))
+lines-named c j = all-map (λ x h. h .0) (linesOf c j) (job-named c j)
 
 -- Jobs of other numbers have no chunk of job n.
 pub none-of-jobs : (c : FarmCosts) (n : ℕ) (js : List Job) → All (λ (j : Job). j .number ≡ n → ⊥) js → NoneOf n (linesOfAll c js)
@@ -111,24 +111,13 @@ spans-start c js j d m =
     all-image P (λ (x : Chunk). record { from = i .booking .start; chunk = x }) (linesOf c i)
     (all-map (λ x e q. ap (λ (k : Job). k .booking .start) (sym (of-number-is js i d n) ∙ ap (λ (a : ℕ). ofNumber a js) (sym e ∙ q) ∙ of-number-is js j d m)) (linesOf c i) (lines-named c i))))
 
-chunks-units : (c : FarmCosts) (p j s t : ℕ) (ks xs : List ℕ) → length ks ≡ length xs → Positive xs
-    → All (λ (y : Chunk). 1 ≤ y .units) (chunksFrom c p j s t ks xs) × (unitsIn (chunksFrom c p j s t ks xs) ≡ sum xs)
+-- A job's chunks have as many units as its shares.
+chunks-units : (c : FarmCosts) (p j s t : ℕ) (ks xs : List ℕ) → length ks ≡ length xs → unitsIn (chunksFrom c p j s t ks xs) ≡ sum xs
 unfolding chunksFrom unitsIn sum
-chunks-units c p j s t [] [] e h = (tt, refl)
-chunks-units c p j s t [] (a ∷ xs) e h = absurd (omega arith)
-chunks-units c p j s t (k ∷ ks) [] e h = absurd (omega arith)
-chunks-units c p j s t (k ∷ ks) (a ∷ xs) e h =
-    let r = chunks-units c p j s (sendEnd (costsFor c p) t a) ks xs (omega arith) (h .1) in
-    ((h .0, r .0), ap (λ (n : ℕ). a + n) (r .1))
-
--- Each send ends and each chunk finishes when the costs make it.
-chunks-times : (c : FarmCosts) (p j s t : ℕ) (ks xs : List ℕ)
-    → All (λ (y : Chunk). (y .sent ≡ sendEnd (costsFor c p) (y .start) (y .units)) × (y .finish ≡ chunkFinish (costsFor c p) (y .start) (y .units))) (chunksFrom c p j s t ks xs)
-unfolding chunksFrom
-chunks-times c p j s t [] [] = tt
-chunks-times c p j s t [] (a ∷ xs) = tt
-chunks-times c p j s t (k ∷ ks) [] = tt
-chunks-times c p j s t (k ∷ ks) (a ∷ xs) = ((refl, refl), chunks-times c p j s (sendEnd (costsFor c p) t a) ks xs)
+chunks-units c p j s t [] [] e = refl
+chunks-units c p j s t [] (a ∷ xs) e = absurd (omega arith)
+chunks-units c p j s t (k ∷ ks) [] e = absurd (omega arith)
+chunks-units c p j s t (k ∷ ks) (a ∷ xs) e = ap (λ (n : ℕ). a + n) (chunks-units c p j s (sendEnd (costsFor c p) t a) ks xs (omega arith))
 
 -- The chunks of a whole job do what it was accepted for.
 pub whole-fulfils : (c : FarmCosts) (n : ℕ) (j : Job) → Whole c n j → Fulfils c (acceptedOf j) (linesOf c j)
@@ -136,14 +125,14 @@ whole-fulfils c n j h =
     let s = j .booking .start in
     let ks = chosen (j .booking) in
     let xs = units (j .booking) in
-    let times = chunks-times c (j .compute) (j .number) (j .show) s ks xs in
-    let r = chunks-units c (j .compute) (j .number) (j .show) s ks xs (h .paired .0) (h .each) in
+    let own = ownCosts c j in
+    let Some : ℕ → Type 0 = λ (a : ℕ). 1 ≤ a in
     record {
-      named = chunks-named c (j .compute) (j .number) (j .show) s ks xs;
-      each = r .0;
-      all = r .1 ∙ h .all;
-      sent = all-map (λ x k. k .0) (linesOf c j) times;
-      finish = all-map (λ x k. k .1) (linesOf c j) times;
+      named = job-named c j;
+      each = lines-each (λ (y : Chunk). 1 ≤ y .units) Some c j (λ t k a l. l) (h .each);
+      all = chunks-units c (j .compute) (j .number) (j .show) s ks xs (h .paired .0) ∙ h .all;
+      sent = lines-each (λ (y : Chunk). y .sent ≡ sendEnd own (y .start) (y .units)) Some c j (λ t k a l. refl) (h .each);
+      finish = lines-each (λ (y : Chunk). y .finish ≡ chunkFinish own (y .start) (y .units)) Some c j (λ t k a l. refl) (h .each);
       computed = job-computes c j (h .compute) (h .each);
       ends = all-map (λ x k. omega (arith, h .ends)) (linesOf c j) (chunks-finish c (j .compute) (j .number) (j .show) s ks xs);
     }

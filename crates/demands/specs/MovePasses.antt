@@ -12,7 +12,7 @@ use Rattle.booking.specs.Best.{chosen, units}
 use Rattle.walk.specs.declared.Job.{Job}
 use Rattle.walk.specs.declared.Chunk.{Chunk}
 use Rattle.planner.specs.declared.Farm.{Farm}
-use Rattle.planner.specs.Model.{greatest, ownCosts, linesOf, spansOf, spansOfAll, JobSized, Sized, afters, fitAll, byStart, waitingOf, busyOf, Apart}
+use Rattle.planner.specs.Model.{greatest, linesOf, spansOf, spansOfAll, JobSized, Sized, afters, fitAll, byStart, waitingOf, busyOf, Apart}
 use Rattle.soundness.specs.Model.{jobsPass, allDiffer}
 use Rattle.planner.specs.Passes.{figuresOf, numbersOf, waitingPass, passesOf, JobWithin, JobSound, Passes}
 use Rattle.planner.specs.PassesSteps.{farmWithin, usable}

@@ -10,14 +10,14 @@ use lib.ListN.{length, drop}
 use lib.Seq.{take-at}
 use Rattle.lists.specs.Laws.{All, all-map, all-of, perm-all, perm-mem, mem-image, map-join}
 use Rattle.limits.specs.declared.FarmCosts.{FarmCosts}
-use Rattle.shares.specs.Model.{sendEnd}
-use Rattle.booking.specs.Best.{chosen, units}
+use Rattle.booking.specs.Best.{units}
 use Rattle.walk.specs.declared.Job.{Job}
 use Rattle.walk.specs.declared.Chunk.{Chunk}
 use Rattle.planner.specs.declared.Farm.{Farm}
 use Rattle.answers.specs.declared.Offer.{Offer}
-use Rattle.planner.specs.Model.{costsFor, chunksFrom, linesOf, spansOf, spansOfAll, Sized, byStart, waitingOf, busyOf, termsOf}
+use Rattle.planner.specs.Model.{linesOf, spansOf, spansOfAll, Sized, byStart, waitingOf, busyOf, termsOf}
 use Rattle.planner.specs.Passes.{passesOf}
+use Rattle.walk.specs.Chunks.{lines-each}
 use Rattle.walk.specs.Order.{by-start-perm, by-deadline-perm}
 use Rattle.walk.specs.Plan.{plan-numbers}
 use Rattle.planner.specs.Calls.{granted, hasNumber, ofNumber, computeOf, newJob, queueOf, planned, accepts, withPlan, offerAsked, offerSaid, offerFarm, OfferGranted, withdrawnFarm, withdrawSaid, withdrawFarm}
@@ -79,12 +79,9 @@ Outcome f (move t m) = Refused f (move t m) ⊎ Moves f t m
 -- ---- The lines of a job
 
 -- Each line names its job and its show.
-pub chunks-named : (c : FarmCosts) (p j s t : ℕ) (ks xs : List ℕ) → All (λ (x : Chunk). (x .job ≡ j) × (x .show ≡ s)) (chunksFrom c p j s t ks xs)
-unfolding chunksFrom
-chunks-named c p j s t [] [] = tt
-chunks-named c p j s t [] (a ∷ xs) = tt
-chunks-named c p j s t (k ∷ ks) [] = tt
-chunks-named c p j s t (k ∷ ks) (a ∷ xs) = ((refl, refl), chunks-named c p j s (sendEnd (costsFor c p) t a) ks xs)
+pub job-named : (c : FarmCosts) (j : Job) → All (λ (x : Chunk). (x .job ≡ j .number) × (x .show ≡ j .show)) (linesOf c j)
+job-named c j =
+    lines-each (λ (x : Chunk). (x .job ≡ j .number) × (x .show ≡ j .show)) (λ (a : ℕ). Unit) c j (λ t k a h. (refl, refl)) (all-of (units (j .booking)) (λ a m. tt))
 
 map-same : {A B : Type 0} (f g : A → B) (xs : List A) → All (λ (x : A). f x ≡ g x) xs → map f xs ≡ map g xs
 map-same f g [] h = refl
@@ -100,7 +97,7 @@ started-lines f c (j ∷ js) h = map-join (withStart f) (linesOf c j) (linesOfAl
     one =
         map-same (withStart f) (λ (x : Chunk). record { from = j .booking .start; chunk = x }) (linesOf c j)
         (all-map (λ x e. ap (λ (i : Job). record { from = i .booking .start; chunk = x }) (ap (λ (n : ℕ). ofNumber n (waitingOf f)) (e .0) ∙ h .0)) (linesOf c j)
-        (chunks-named c (j .compute) (j .number) (j .show) (j .booking .start) (chosen (j .booking)) (units (j .booking))))
+        (job-named c j))
 
 -- The jobs that begin are those of their numbers.
 begun-found : (f : Farm) (t : ℕ) → Sized f → passesOf f ≡ true → All (λ (j : Job). ofNumber (j .number) (waitingOf f) ≡ j) (begun f t)

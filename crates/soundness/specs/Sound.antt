@@ -14,7 +14,7 @@ use Rattle.limits.specs.Says.{Says, says-le, says-eq, says-not-eq, says-as, say
 use Rattle.booking.specs.Best.{freeAt, chosen, units}
 use Rattle.walk.specs.declared.Job.{Job}
 use Rattle.walk.specs.declared.Busy.{Busy}
-use Rattle.walk.specs.Model.{greatest, ownCosts, finishOf, spansOf, spansOfAll, byStart, fitAll, Apart, JobSized}
+use Rattle.walk.specs.Model.{greatest, finishOf, spansOf, spansOfAll, byStart, fitAll, Apart, JobSized}
 use Rattle.walk.specs.Chain.{Fits, Proper, fit-all-chain, chain-follows, follows-apart, job-proper}
 use Rattle.walk.specs.Order.{by-start-perm, by-start-grows}
 use Rattle.soundness.specs.declared.Figures.{Figures}

@@ -9,14 +9,14 @@ use lib.ListN.{length, drop, length-take, drop-of-length-le}
 use lib.Seq.{drop-cons, getD-take}
 use Rattle.lists.specs.Laws.{All, all-front}
 use Rattle.limits.specs.declared.FarmCosts.{FarmCosts}
-use Rattle.shares.specs.Model.{chunkFinish, finish}
+use Rattle.shares.specs.Model.{sendEnd, chunkFinish, finish}
 use Rattle.shares.specs.Chunks.{finish-latest}
 use Rattle.limits.specs.Model.{CostsWithin}
 use Rattle.booking.specs.Best.{chosen, units}
 use Rattle.walk.specs.declared.Job.{Job}
 use Rattle.walk.specs.declared.Chunk.{Chunk}
 use Rattle.walk.specs.Returning.{back-last}
-use Rattle.walk.specs.Model.{greatest, costsFor, computeEnd, ownCosts, chunkAt, chunksFrom, finishOf}
+use Rattle.walk.specs.Model.{greatest, costsFor, computeEnd, ownCosts, chunkOn, chunkAt, chunksFrom, linesOf, finishOf}
 
 -- ---- Sums
 
@@ -54,6 +54,18 @@ linesFrom c j i t = chunksFrom c (j .compute) (j .number) (j .show) t (drop i (c
 -- their latest finish
 abbrev pub latestFrom : FarmCosts → Job → ℕ → ℕ → ℕ
 latestFrom c j i t = finish (ownCosts c j) t (drop i (units (j .booking)))
+
+-- What holds of a chunk wherever its send begins, and on whatever node, holds of each line of a job.
+pub lines-each : (P : Chunk → Type 0) (Q : ℕ → Type 0) (c : FarmCosts) (j : Job) → ((t k a : ℕ) → Q a → P (chunkOn c (j .compute) (j .number) (j .show) t k a)) → All Q (units (j .booking))
+    → All P (linesOf c j)
+unfolding chunksFrom
+lines-each P Q c j f = go (j .booking .start) (chosen (j .booking)) (units (j .booking))
+  where
+    go : (t : ℕ) (ks xs : List ℕ) → All Q xs → All P (chunksFrom c (j .compute) (j .number) (j .show) t ks xs)
+    go t [] [] h = tt
+    go t [] (a ∷ xs) h = tt
+    go t (k ∷ ks) [] h = tt
+    go t (k ∷ ks) (a ∷ xs) h = (f t k a (h .0), go (sendEnd (ownCosts c j) t a) ks xs (h .1))
 
 module _ (c : FarmCosts) (j : Job) (s : Sends c j) (i t : ℕ) where
   -- None is left at the end.
