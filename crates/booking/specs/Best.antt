@@ -62,6 +62,11 @@ chosen b = take (b .count) (b .nodes)
 abbrev pub units : Booking → List ℕ
 units b = take (b .count) (b .shares)
 
+-- a feasible booking: it holds a choice, and 0 in the cells past its count. Whatever is planned above rests on this alone, and not on its being the best
+pub record Feasible (q : Request) (free : List ℕ) (b : Booking) : Type 0 where
+  pub choice : Choice q free (b .start) (chosen b) (units b)
+  pub blank : b ≡ bookingOf (b .start) (chosen b) (units b)
+
 -- a booking holds the best of all choices, and 0 in the cells past its count
 pub record Best (q : Request) (free : List ℕ) (b : Booking) : Type 0 where
   pub best : BestChoice q free (b .start) (chosen b) (units b)

@@ -23,7 +23,7 @@ use Rattle.booking.specs.declared.Found.{Found}
 use Rattle.booking.specs.declared.Booking.{Booking}
 use Rattle.booking.specs.Model.{startAt, ranked, search, bookingOf, bookedAt, bookOf}
 use Rattle.booking.specs.Search.{keyAt, Enough, IsFirst, IsNone, search-is}
-use Rattle.booking.specs.Best.{freeAt, Known, Choice, Before, BestChoice, chosen, units, Best, NoChoice, IsBooking}
+use Rattle.booking.specs.Best.{freeAt, Known, Choice, Before, BestChoice, chosen, units, Feasible, Best, NoChoice, IsBooking}
 use Rattle.booking.specs.Only.{only}
 use Rattle.booking.specs.Rank.{IsKey, IsRank, ranked-is}
 use Rattle.booking.specs.NoneEarlier.{sorted-early, no-more, free-by, before-all, first-before, times-grow}
@@ -196,6 +196,12 @@ book-is q free e held some = go (search q 0 (ranked (q .nodes) free)) (search-is
         ⊎ Best q free (cond (answers (q .costs) (q .nodes)) (bookedAt q (ranked (q .nodes) free) f) (bookingOf 0 [] []))
     go f (inl n) = inl (rw (e, n .none), no-choice q free sends held some f n)
     go f (inr i) = inr (rw (e, i .1 .count, i .1 .start) (best-of q free _ _ _ (best₀ q free sends held some (i .0) f (i .1))))
+
+-- What is booked is feasible.
+pub book-feasible : (q : Request) (free : List ℕ) → answers (q .costs) (q .nodes) ≡ true → q .nodes ≤ length free → 1 ≤ q .size → (bookOf q free .count ≡ 0 → ⊥) → Feasible q free (bookOf q free)
+unfolding bookingOf
+book-feasible q free e held some n =
+    ⊎-elim (λ x. absurd (n (ap (λ (y : Booking). y .count) (x .0)))) (λ x. record { choice = x .best .choice; blank = x .blank }) (book-is q free e held some)
 
 -- ---- Exactly when
 

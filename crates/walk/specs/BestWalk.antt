@@ -18,15 +18,10 @@ use Rattle.booking.specs.Booked.{best-some, book-is, book-iff}
 use Rattle.walk.specs.declared.Job.{Job}
 use Rattle.walk.specs.declared.Terms.{Terms}
 use Rattle.walk.specs.declared.Busy.{Busy}
-use Rattle.walk.specs.Model.{defaultCosts, linesOf, byDeadline, deadlineOf, requestOf, step, busyAfter, booksAll}
+use Rattle.walk.specs.Model.{defaultCosts, linesOf, byDeadline, deadlineOf, requestOf, step, busyAfter, booksAll, InTurn}
 use Rattle.walk.specs.Chain.{afters-length}
 use Rattle.walk.specs.Order.{Precedes, by-deadline-perm, by-deadline-sorted}
 use Rattle.walk.specs.WalkSteps.{Ready}
-
--- P of each job of the walk, b the free times that those before it have left
-abbrev pub InTurn : (Terms → Busy → Job → Type 0) → Terms → Busy → List Job → Type 0
-InTurn P w b [] = Unit
-InTurn P w b (j ∷ js) = P w b j × InTurn P w (busyAfter w b j) js
 
 -- each job has the best of all choices behind those before it
 abbrev pub BestAll : Terms → Busy → List Job → Type 0
@@ -103,6 +98,6 @@ walk-each w b js r h = turns-each w (r .answered) b js (all-map (λ j x. x .0) j
 pub walk-best : (w : Terms) (b : Busy) (js : List Job) → Ready w b js → w .nodes ≤ length (b .free) → booksAll w b js ≡ true → BestAll w b js
 walk-best w b js r h = walk-iff w b js r h .0 .0
 
--- What is walked is the waiting jobs and the new one, each once, by deadline, equal deadlines by number.
+-- What is walked is the jobs of the queue, each once, by deadline, equal deadlines by number.
 pub walked-jobs : (js : List Job) → List·Permᴰ js (byDeadline js) × Pairs (Precedes deadlineOf) (byDeadline js)
 walked-jobs js = (by-deadline-perm js, by-deadline-sorted js)

@@ -210,3 +210,8 @@ plan w b (j ∷ js) = step w b j ∷ plan w (busyAfter w b j) js
 unfoldable pub booksAll : Terms → Busy → List Job → Bool
 booksAll w b [] = true
 booksAll w b (j ∷ js) = leb 1 (step w b j .booking .count) && booksAll w (busyAfter w b j) js
+
+-- P of each job of the walk, b the free times that those before it have left
+abbrev pub InTurn : (Terms → Busy → Job → Type 0) → Terms → Busy → List Job → Type 0
+InTurn P w b [] = Unit
+InTurn P w b (j ∷ js) = P w b j × InTurn P w (busyAfter w b j) js

@@ -10,7 +10,7 @@ use Rattle.limits.specs.declared.FarmCosts.{FarmCosts}
 use Rattle.shares.specs.Model.{sendEnd, chunkFinish}
 use Rattle.shares.specs.Lists.{Positive}
 use Rattle.limits.specs.Model.{CostsWithin}
-use Rattle.booking.specs.Best.{freeAt, chosen, units, Best}
+use Rattle.booking.specs.Best.{freeAt, chosen, units, Feasible}
 use Rattle.booking.specs.Booked.{some-share}
 use Rattle.walk.specs.declared.Job.{Job}
 use Rattle.walk.specs.declared.Terms.{Terms}
@@ -18,8 +18,7 @@ use Rattle.walk.specs.declared.Busy.{Busy}
 use Rattle.walk.specs.Model.{costsFor, chunkOn, chunksFrom, linesOf, spansFrom, spansOf, spansOfAll, after, afters, requestOf, step, busyAfter, plan}
 use Rattle.walk.specs.Chain.{Chain, chain-job, free-other, afters-length}
 use Rattle.walk.specs.Chunks.{Sends}
-use Rattle.walk.specs.WalkSteps.{Walkable, best-sends}
-use Rattle.walk.specs.BestWalk.{BestAll}
+use Rattle.walk.specs.WalkSteps.{Walkable, FeasibleAll, feasible-sends}
 
 -- ---- The plan in walk order
 
@@ -36,15 +35,15 @@ chunks-chain c q j s f t b (k ∷ ks) (a ∷ xs) h p n d =
     all-both (λ m i e. omega (arith, free-other (b .free) k m (chunkFinish (costsFor c q) t a) (p .0) (i .0) (i .1))) ks apart (n .1) in
     ((h, n .0), chunks-chain c q j s f (sendEnd (costsFor c q) t a) (after b (chunkOn c q j s t k a)) ks xs (omega arith) (p .1) free (d .1))
 
--- The spans of a booking that is best behind b are a chain from b.
-job-chain : (w : Terms) (b : Busy) (j : Job) → Best (requestOf w b j) (b .free) (step w b j .booking) → Chain b (spansOf (w .costs) (step w b j))
+-- The spans of a booking that is feasible behind b are a chain from b.
+job-chain : (w : Terms) (b : Busy) (j : Job) → Feasible (requestOf w b j) (b .free) (step w b j .booking) → Chain b (spansOf (w .costs) (step w b j))
 job-chain w b j x =
     let q = step w b j .booking in
-    let h = x .best .choice in
+    let h = x .choice in
     chunks-chain (w .costs) (j .compute) (j .number) (j .show) (q .start) (q .start) b (chosen q) (units q) (omega (arith, h .after)) (all-map (λ k a. a .0) (chosen q) (h .known)) (h .idle) (h .differ)
 
--- The spans of a plan in walk order, each job best behind those before it, are a chain from the walk's free times.
-pub plan-chain : (w : Terms) (b : Busy) (js : List Job) → BestAll w b js → Chain b (spansOfAll (w .costs) (plan w b js))
+-- The spans of a plan in walk order, each job booked behind those before it, are a chain from the walk's free times.
+pub plan-chain : (w : Terms) (b : Busy) (js : List Job) → FeasibleAll w b js → Chain b (spansOfAll (w .costs) (plan w b js))
 unfolding plan spansOfAll
 plan-chain w b [] a = tt
 plan-chain w b (j ∷ js) a =
@@ -71,17 +70,17 @@ sends-pass c q j s t b (k ∷ ks) (a ∷ xs) m e h p =
     omega (arith, mul-le-mul-right (c .send) (p .0), sends-end c q j s (sendEnd (costsFor c q) t a) (after b (chunkOn c q j s t k a)) ks xs (omega arith))
 
 -- A booked job leaves the link free only after its start.
-link-grows : (w : Terms) (b : Busy) (j : Job) → 1 ≤ w .costs .send → 1 ≤ j .size → Best (requestOf w b j) (b .free) (step w b j .booking)
+link-grows : (w : Terms) (b : Busy) (j : Job) → 1 ≤ w .costs .send → 1 ≤ j .size → Feasible (requestOf w b j) (b .free) (step w b j .booking)
     → (b .link ≤ step w b j .booking .start) × (step w b j .booking .start < busyAfter w b j .link)
 link-grows w b j m z x =
     let q = step w b j .booking in
-    let h = x .best .choice in (
+    let h = x .choice in (
       omega (arith, h .after),
       sends-pass (w .costs) (j .compute) (j .number) (j .show) (q .start) b (chosen q) (units q) m (h .paired) (some-share (units q) (omega (arith, h .all))) (h .each),
     )
 
 -- No job of a plan starts before the link's free time.
-pub plan-late : (w : Terms) (b : Busy) (js : List Job) → 1 ≤ w .costs .send → All (λ (j : Job). 1 ≤ j .size) js → BestAll w b js
+pub plan-late : (w : Terms) (b : Busy) (js : List Job) → 1 ≤ w .costs .send → All (λ (j : Job). 1 ≤ j .size) js → FeasibleAll w b js
     → All (λ (j : Job). b .link ≤ j .booking .start) (plan w b js)
 unfolding plan
 plan-late w b [] m z a = tt
@@ -90,7 +89,7 @@ plan-late w b (j ∷ js) m z a =
     (g .0, all-map (λ x h. omega arith) (plan w (busyAfter w b j) js) (plan-late w (busyAfter w b j) js m (z .1) (a .1)))
 
 -- Along a plan the starts strictly increase.
-pub starts-grow : (w : Terms) (b : Busy) (js : List Job) → 1 ≤ w .costs .send → All (λ (j : Job). 1 ≤ j .size) js → BestAll w b js
+pub starts-grow : (w : Terms) (b : Busy) (js : List Job) → 1 ≤ w .costs .send → All (λ (j : Job). 1 ≤ j .size) js → FeasibleAll w b js
     → Pairs (λ (i j : Job). i .booking .start < j .booking .start) (plan w b js)
 unfolding plan
 starts-grow w b [] m z a = tt
@@ -100,10 +99,10 @@ starts-grow w b (j ∷ js) m z a =
 
 -- ---- The jobs of a plan
 
--- What follows for each job from its booking being best behind some free times holds of all jobs of a plan.
+-- What follows for each job from its booking being feasible behind some free times holds of all jobs of a plan.
 pub plan-all : (P Q : Job → Type 0) (w : Terms) (b : Busy) (js : List Job)
-    → ((x : Busy) (j : Job) → length (x .free) ≡ 64 → P j → Best (requestOf w x j) (x .free) (step w x j .booking) → Q (step w x j))
-    → length (b .free) ≡ 64 → All P js → BestAll w b js → All Q (plan w b js)
+    → ((x : Busy) (j : Job) → length (x .free) ≡ 64 → P j → Feasible (requestOf w x j) (x .free) (step w x j .booking) → Q (step w x j))
+    → length (b .free) ≡ 64 → All P js → FeasibleAll w b js → All Q (plan w b js)
 unfolding plan
 plan-all P Q w b [] g l h a = tt
 plan-all P Q w b (j ∷ js) g l h a =
@@ -122,10 +121,10 @@ plan-length w b [] = refl
 plan-length w b (j ∷ js) = ap suc (plan-length w (busyAfter w b j) js)
 
 -- Every job of a plan that books all has chunks that can be worked out.
-pub plan-sends : (w : Terms) (b : Busy) (js : List Job) → w .nodes ≤ 64 → CostsWithin (w .costs) → length (b .free) ≡ 64 → All Walkable js → BestAll w b js → All (Sends (w .costs)) (plan w b js)
+pub plan-sends : (w : Terms) (b : Busy) (js : List Job) → w .nodes ≤ 64 → CostsWithin (w .costs) → length (b .free) ≡ 64 → All Walkable js → FeasibleAll w b js → All (Sends (w .costs)) (plan w b js)
 unfolding plan
 plan-sends w b [] n z l r a = tt
 plan-sends w b (j ∷ js) n z l r a = (
-  best-sends w b j n z (omega arith) (r .0 .1) (r .0 .2) (a .0),
+  feasible-sends w b j n z (omega arith) (r .0 .1) (r .0 .2) (a .0),
   plan-sends w (busyAfter w b j) js n z (afters-length b (linesOf (w .costs) (step w b j)) ∙ l) (r .1) (a .1),
 )

@@ -2,7 +2,7 @@
 use mathlib.Core.Path.{_≡_, ap, sym, _∙_}
 use mathlib.Core.List.{List, [], _∷_, _++_, append-assoc}
 use mathlib.Core.Bool.{true, _&&_}
-use mathlib.Core.Logic.{⊎-elim}
+use borrow.Author.Tests.{leb-true}
 use Prim.Native.Nat.{ℕ, _+_, _≤_, _<_}
 use native.Mathlib.Numerals.{add-one}
 use native.Mathlib.Omega.{arith}
@@ -12,17 +12,19 @@ use lib.Seq.{take-suc-set, drop-cons}
 use Rattle.lists.specs.Laws.{All, all-map}
 use Rattle.shares.specs.Model.{answers}
 use Rattle.limits.specs.Model.{CostsWithin}
+use Rattle.limits.specs.Tests.{and-both}
 use Rattle.booking.specs.declared.Booking.{Booking}
 use Rattle.booking.specs.Model.{bookingOf, ranked}
-use Rattle.booking.specs.Best.{chosen, Best}
+use Rattle.booking.specs.Best.{chosen, Feasible}
 use Rattle.booking.specs.Rank.{ranked-is}
 use Rattle.booking.specs.NoneEarlier.{no-more}
-use Rattle.booking.specs.Booked.{book-is}
+use Rattle.booking.specs.Booked.{book-feasible}
 use Rattle.walk.specs.declared.Job.{Job}
 use Rattle.walk.specs.declared.Terms.{Terms}
 use Rattle.walk.specs.declared.Busy.{Busy}
 use Rattle.walk.specs.declared.Plan.{Plan}
-use Rattle.walk.specs.Model.{greatest, noJob, defaultCosts, byDeadline, requestOf, step, busyAfter, plan, booksAll}
+use Rattle.walk.specs.Model.{greatest, noJob, defaultCosts, linesOf, byDeadline, requestOf, step, busyAfter, plan, booksAll, InTurn}
+use Rattle.walk.specs.Chain.{afters-length}
 use Rattle.walk.specs.Chunks.{Sends}
 
 -- a job that can be walked
@@ -36,37 +38,49 @@ pub record Ready (w : Terms) (b : Busy) (js : List Job) : Type 0 where
   pub free : All (λ (t : ℕ). t ≤ greatest) (take (w .nodes) (b .free))
   pub jobs : All Walkable js
 
--- what it comes to
-pub record Walked (w : Terms) (b : Busy) (jobs : List Job) (n : ℕ) (job : Job) (r : Plan) : Type 0 where
-  pub books : r .ok ≡ booksAll w b (byDeadline (take n jobs ++ job ∷ []))
-  pub plans : r .ok ≡ true → r .jobs ≡ plan w b (byDeadline (take n jobs ++ job ∷ [])) ++ drop (n + 1) jobs
-  -- the new job is at this place
-  pub place : r .ok ≡ true → (r .place ≤ n) × (getD (r .jobs) (r .place) noJob .number ≡ job .number)
+-- what the walk of the first n of these jobs comes to
+pub record Walked (w : Terms) (b : Busy) (jobs : List Job) (n : ℕ) (r : Plan) : Type 0 where
+  pub books : r .ok ≡ booksAll w b (byDeadline (take n jobs))
+  pub plans : r .ok ≡ true → r .jobs ≡ plan w b (byDeadline (take n jobs)) ++ drop n jobs
 
--- A job that is booked has the best of all choices behind those before it.
-pub step-best : (w : Terms) (b : Busy) (j : Job) → answers (defaultCosts (w .costs)) (w .nodes) ≡ true → w .nodes ≤ length (b .free) → 1 ≤ j .size
-    → (step w b j .booking .count ≡ 0 → ⊥) → Best (requestOf w b j) (b .free) (step w b j .booking)
-unfolding bookingOf
-step-best w b j e h z n =
-    ⊎-elim (λ x. absurd (n (ap (λ (y : Booking). y .count) (x .0)))) (λ x. x) (book-is (requestOf w b j) (b .free) e h z)
+-- each job has a feasible booking behind those before it
+abbrev pub FeasibleAll : Terms → Busy → List Job → Type 0
+FeasibleAll = InTurn (λ w b j. Feasible (requestOf w b j) (b .free) (step w b j .booking))
+
+-- A job that is booked has a feasible booking behind those before it.
+pub step-feasible : (w : Terms) (b : Busy) (j : Job) → answers (defaultCosts (w .costs)) (w .nodes) ≡ true → w .nodes ≤ length (b .free) → 1 ≤ j .size
+    → (step w b j .booking .count ≡ 0 → ⊥) → Feasible (requestOf w b j) (b .free) (step w b j .booking)
+step-feasible w b j e h z n = book-feasible (requestOf w b j) (b .free) e h z n
 
 -- Its chunks can be worked out.
-pub best-sends : (w : Terms) (b : Busy) (j : Job) → w .nodes ≤ 64 → CostsWithin (w .costs) → w .nodes ≤ length (b .free) → j .deadline ≤ greatest → j .compute ≤ 1_000_000 → Best (requestOf w b j) (b .free) (step w b j .booking)
+pub feasible-sends : (w : Terms) (b : Busy) (j : Job) → w .nodes ≤ 64 → CostsWithin (w .costs) → w .nodes ≤ length (b .free) → j .deadline ≤ greatest → j .compute ≤ 1_000_000 → Feasible (requestOf w b j) (b .free) (step w b j .booking)
     → Sends (w .costs) (step w b j)
 unfolding bookingOf
-best-sends w b j f r h d p x =
+feasible-sends w b j f r h d p x =
     let q : Booking = step w b j .booking in
     let k : q .count ≡ length (chosen q) = ap (λ (y : Booking). y .count) (x .blank) in
-    let m : length (chosen q) ≤ w .nodes = no-more (w .nodes) (b .free) (ranked (w .nodes) (b .free)) (ranked-is (w .nodes) (b .free) h) (chosen q) (x .best .choice .known) (x .best .choice .differ) in
+    let m : length (chosen q) ≤ w .nodes = no-more (w .nodes) (b .free) (ranked (w .nodes) (b .free)) (ranked-is (w .nodes) (b .free) h) (chosen q) (x .choice .known) (x .choice .differ) in
     record {
       few = omega arith;
       nodes = sym k;
-      shares = sym (k ∙ x .best .choice .paired);
-      known = all-map (λ y a. (a .0, omega (arith, a .1))) (chosen q) (x .best .choice .known);
-      ends = omega (arith, x .best .choice .ends);
+      shares = sym (k ∙ x .choice .paired);
+      known = all-map (λ y a. (a .0, omega (arith, a .1))) (chosen q) (x .choice .known);
+      ends = omega (arith, x .choice .ends);
       costs = r;
       compute = p;
     }
+
+-- A walk that books all has a feasible booking for each job.
+pub books-feasible : (w : Terms) (b : Busy) (js : List Job) → answers (defaultCosts (w .costs)) (w .nodes) ≡ true → w .nodes ≤ length (b .free) → All (λ (j : Job). 1 ≤ j .size) js → booksAll w b js ≡ true
+    → FeasibleAll w b js
+unfolding booksAll
+books-feasible w b [] e h z t = tt
+books-feasible w b (j ∷ js) e h z t =
+    let both = and-both (leb 1 (step w b j .booking .count)) (booksAll w (busyAfter w b j) js) t in
+    let one : 1 ≤ step w b j .booking .count = leb-true 1 _ (both .0) in (
+      step-feasible w b j e h (z .0) (λ n. omega arith),
+      books-feasible w (busyAfter w b j) js e (omega (arith, afters-length b (linesOf (w .costs) (step w b j)))) (z .1) (both .1),
+    )
 
 -- Jobs in a row, of which the one at place i comes next.
 module _ (w : Terms) (queue : List Job) (i : ℕ) (h : i < length queue) (b : Busy) where
