@@ -9,6 +9,10 @@ use Rattle.limits.specs.declared.FarmCosts.{FarmCosts}
 abbrev pub greatest : ℕ
 greatest = 1_000_000_000_000
 
+-- the most ticks that a show may hold: 64 nodes over the whole time range
+abbrev pub mostHeld : ℕ
+mostHeld = 64_000_000_000_000
+
 -- ---- The tests
 
 -- whether x is from a to b

@@ -7,7 +7,7 @@ use mathlib.Core.List.{List, [], _∷_, _++_}
 use mathlib.Core.Bool.{Bool, true, false, cond, _&&_}
 use mathlib.Core.Path.{_≡_}
 use lib.Dec.{eqb}
-use lib.ListN.{length, getD, drop, replicate}
+use lib.ListN.{length, getD, replicate}
 use Rattle.limits.specs.declared.FarmCosts.{FarmCosts}
 use Rattle.booking.specs.Model.{bookingOf}
 use Rattle.walk.specs.declared.Job.{Job}
@@ -16,6 +16,7 @@ use Rattle.answers.specs.declared.Offer.{Offer}
 use Rattle.planner.specs.declared.Reply.{Reply}
 use Rattle.planner.specs.Model.{greatest, between, Between, allAtMost, costsWithin, emptyJob, waitingOf, termsOf, busyOf, byDeadline, plan, booksAll}
 use Rattle.planner.specs.Passes.{passesOf}
+use Rattle.planner.specs.Changes.{withQueue}
 
 -- ---- Replies
 
@@ -26,27 +27,10 @@ pub record Replies (r : Reply) (a : Said) (f : Farm) : Type 0 where
 
 -- ---- Opening
 
--- the unopened farm: every figure is 0
-abbrev pub unopened : Farm
-unopened = record {
-  opened = false;
-  nodes = 0;
-  costs = record { send = 0; compute = 0; linksetup = 0; nodesetup = 0; returning = 0 };
-  shows = 0;
-  allowances = replicate 32 0;
-  held = replicate 32 0;
-  clock = 0;
-  link = 0;
-  free = replicate 64 0;
-  used = 0;
-  waiting = 0;
-  jobs = replicate 128 emptyJob;
-}
-
--- a farm just opened
-abbrev pub openedWith : ℕ → FarmCosts → List ℕ → Farm
-openedWith n c al = record {
-  opened = true;
+-- a farm on which nothing has happened, opened or not, with these nodes, costs and allowances
+abbrev pub newFarm : Bool → ℕ → FarmCosts → List ℕ → Farm
+newFarm o n c al = record {
+  opened = o;
   nodes = n;
   costs = c;
   shows = length al;
@@ -59,6 +43,14 @@ openedWith n c al = record {
   waiting = 0;
   jobs = replicate 128 emptyJob;
 }
+
+-- the unopened farm: every figure is 0
+abbrev pub unopened : Farm
+unopened = newFarm false 0 (record { send = 0; compute = 0; linksetup = 0; nodesetup = 0; returning = 0 }) []
+
+-- a farm just opened
+abbrev pub openedWith : ℕ → FarmCosts → List ℕ → Farm
+openedWith = newFarm true
 
 -- 1 to 32 shows, each allowance within the table
 abbrev pub showsWithin : List ℕ → Bool
@@ -106,26 +98,9 @@ planned f o = plan (termsOf f) (busyOf f) (queueOf f o)
 abbrev pub accepts : Farm → Offer → Bool
 accepts f o = booksAll (termsOf f) (busyOf f) (queueOf f o)
 
--- the farm with one job more, and these jobs
-abbrev pub nextFarm : Farm → List Job → Farm
-nextFarm f js = record {
-  opened = f .opened;
-  nodes = f .nodes;
-  costs = f .costs;
-  shows = f .shows;
-  allowances = f .allowances;
-  held = f .held;
-  clock = f .clock;
-  link = f .link;
-  free = f .free;
-  used = f .used + 1;
-  waiting = f .waiting + 1;
-  jobs = js;
-}
-
--- the farm with the new plan in place of the old
+-- the farm with one number more used, and the new plan in place of the old
 abbrev pub withPlan : Farm → List Job → Farm
-withPlan f js = nextFarm f (js ++ drop (f .waiting + 1) (f .jobs))
+withPlan f js = withQueue f (f .used + 1) js
 
 -- questions 11, 4, 5, 2, 6 and 7 in that order: the number of the first answered no, or 0
 unfoldable pub offerAsked : Farm → Offer → ℕ
@@ -158,30 +133,9 @@ quoteSaid f o = asQuote (offerSaid f o)
 
 -- ---- Withdrawal
 
--- the farm with n waiting jobs, of this array
-abbrev pub withWaiting : Farm → ℕ → List Job → Farm
-withWaiting f n js = record {
-  opened = f .opened;
-  nodes = f .nodes;
-  costs = f .costs;
-  shows = f .shows;
-  allowances = f .allowances;
-  held = f .held;
-  clock = f .clock;
-  link = f .link;
-  free = f .free;
-  used = f .used;
-  waiting = n;
-  jobs = js;
-}
-
--- the farm with one job less, and these jobs
-abbrev pub fewerFarm : Farm → List Job → Farm
-fewerFarm f js = withWaiting f (f .waiting - 1) js
-
--- the farm without job n: the other waiting jobs as they are, in the order that they have, and nothing walked. The cells behind them hold what they held.
+-- the farm without job n: the other waiting jobs as they are, in the order that they have, and nothing walked
 abbrev pub withdrawnFarm : Farm → ℕ → Farm
-withdrawnFarm f n = fewerFarm f (without n (waitingOf f) ++ drop (f .waiting - 1) (f .jobs))
+withdrawnFarm f n = withQueue f (f .used) (without n (waitingOf f))
 
 -- questions 11 and 12 in that order; the job
 unfoldable pub withdrawSaid : Farm → ℕ → Said

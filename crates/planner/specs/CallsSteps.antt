@@ -1,7 +1,7 @@
 -- Opening, offers and accounts, question by question: what the functions of src/calls.rt need and promise each other.
 use mathlib.Core.Path.{_≡_, refl, ap, sym, _∙_}
 use mathlib.Core.List.{List, [], _∷_, _++_}
-use mathlib.Core.Bool.{true, false, _&&_}
+use mathlib.Core.Bool.{true, false, cond, _&&_}
 use Prim.Native.Nat.{ℕ, suc, _+_, _-_, _≤_, _<_}
 use native.Mathlib.Omega.{arith}
 use native.Mathlib.Numerals.{add-one}
@@ -20,13 +20,15 @@ use Rattle.answers.specs.Steps.{asked-all}
 use Rattle.planner.specs.declared.Farm.{Farm}
 use Rattle.answers.specs.declared.Offer.{Offer}
 use Rattle.planner.specs.declared.Reply.{Reply}
+use Rattle.planner.specs.declared.Decision.{Decision}
 use Rattle.answers.specs.declared.Question.{Question}
 use Rattle.answers.specs.declared.Question.the-variants as question
 use Rattle.answers.specs.declared.Answer.the-variants as answer
 use Rattle.planner.specs.Model.{greatest, between, costsWithin, defaultCosts, waitingOf, termsOf, busyOf, byDeadline}
 use Rattle.planner.specs.Passes.{passesOf}
 use Rattle.planner.specs.PassesSteps.{passes-within, passes-jobs}
-use Rattle.planner.specs.Calls.{Account, said, granted, refused, numberOf, Replies, unopened, openedWith, showsWithin, openSaid, openFarm, heldBy, allowanceOf, accountSaid, computeOf, asksOffer, offerAsked, offerSaid, offerFarm, asQuote, quoteSaid}
+use Rattle.planner.specs.Changes.{withJobs}
+use Rattle.planner.specs.Calls.{Account, Said, said, granted, refused, numberOf, Replies, unopened, openedWith, showsWithin, openSaid, openFarm, heldBy, allowanceOf, accountSaid, computeOf, asksOffer, offerAsked, offerSaid, offerFarm, asQuote, quoteSaid}
 
 -- ---- Opening
 
@@ -117,6 +119,21 @@ pub quote-unsound : (f : Farm) (o : Offer) → passesOf f ≡ false → quoteSai
 unfolding quoteSaid offerSaid
 quote-unsound f o e = let s : offerSaid f o ≡ refused 11 = rw (asked-farm f o e) in ap asQuote s
 
+-- ---- Calls that decide about the waiting jobs
+
+-- the farm with a decision carried out
+abbrev pub decidedFarm : Farm → Decision → Farm
+decidedFarm f d = cond (d .granted) (withJobs f (d .used) (d .waiting) (d .jobs)) f
+
+-- a decision on the farm f says so, and carried out it is this farm
+pub record Decides (f : Farm) (s : Said) (next : Farm) (d : Decision) : Type 0 where
+  pub says : said (d .answer) ≡ s
+  pub hands : decidedFarm f d ≡ next
+
+-- Its reply says so and hands that farm back.
+pub decides-replies : (f : Farm) (s : Said) (next : Farm) (d : Decision) (r : Reply) → r ≡ record { answer = d .answer; farm = decidedFarm f d } → Decides f s next d → Replies r s next
+decides-replies f s next d r e x = record { says = ap (λ (y : Reply). said (y .answer)) e ∙ x .says; hands = ap (λ (y : Reply). y .farm) e ∙ x .hands }
+
 -- ---- What the functions of an offer promise each other
 
 -- What questions 6 and 7 say.
@@ -133,6 +150,7 @@ pub record Offered (f : Farm) (j : Job) : Type 0 where
   pub deadline : j .deadline ≤ greatest
   pub compute : j .compute ≤ 1_000_000
   pub waiting : f .waiting < 128
+  pub used : f .used < greatest
 
 -- On a farm that passes, the walk has costs and nodes that the shares answer for, free times in the range, and jobs of at least a unit with
 -- deadlines in the range and compute costs within their limit.

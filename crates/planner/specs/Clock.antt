@@ -13,6 +13,7 @@ use Rattle.walk.specs.declared.Chunk.{Chunk}
 use Rattle.planner.specs.declared.Farm.{Farm}
 use Rattle.planner.specs.Model.{greatest, between, afters, byStart, waitingOf, busyOf}
 use Rattle.planner.specs.Passes.{passesOf}
+use Rattle.planner.specs.Changes.{withQueue, atTime}
 use Rattle.planner.specs.Calls.{Clock, Shown, Said, granted, refused}
 
 -- ---- What a move begins
@@ -31,22 +32,9 @@ issued f t = linesOfAll (f .costs) (begun f t)
 
 -- ---- A clock move
 
--- the farm moved to t
+-- the farm moved to t: what begins takes its free times and adds to the held ticks, and the others wait on
 abbrev pub movedFarm : Farm → ℕ → Farm
-movedFarm f t = record {
-  opened = f .opened;
-  nodes = f .nodes;
-  costs = f .costs;
-  shows = f .shows;
-  allowances = f .allowances;
-  held = raised (f .held) (issued f t);
-  clock = t;
-  link = afters (busyOf f) (issued f t) .link;
-  free = afters (busyOf f) (issued f t) .free;
-  used = f .used;
-  waiting = length (left f t);
-  jobs = left f t ++ drop (length (left f t)) (f .jobs);
-}
+movedFarm f t = withQueue (atTime f t (afters (busyOf f) (issued f t)) (raised (f .held) (issued f t))) (f .used) (left f t)
 
 -- questions 11, 9 and 10 in that order, put to a move to t that is lent n records: the number of the first answered no, or 0
 unfoldable pub moveAsked : Farm → ℕ → ℕ → ℕ

@@ -31,9 +31,10 @@ use Rattle.answers.specs.declared.Question.the-variants as question
 use Rattle.answers.specs.declared.Answer.the-variants as answer
 use Rattle.planner.specs.declared.Move.{Move}
 use Rattle.planner.specs.declared.clock.Issue.{Issue}
-use Rattle.planner.specs.Model.{greatest, between, Between, noJob, afters, inOrder, byStart, waitingOf, busyOf, JobSized, Sized}
+use Rattle.planner.specs.Model.{greatest, mostHeld, between, Between, noJob, afters, inOrder, byStart, waitingOf, busyOf, JobSized, Sized}
 use Rattle.planner.specs.Passes.{passesOf, figuresOf, JobWithin}
 use Rattle.planner.specs.PassesSteps.{passes-within, passes-jobs}
+use Rattle.planner.specs.Changes.{withJobs, atTime}
 use Rattle.planner.specs.Calls.{Clock, Shown, said, numberOf, granted, Replies}
 use Rattle.planner.specs.Clock.{keep, startsBy, startsAfter, linesOfAll, raised, begun, left, issued, movedFarm, moveAsked, moveSaid, moveFarm, moveMemory, moveLines, shown, shownAsked, shownSaid, shownMemory, shownLines}
 
@@ -121,7 +122,7 @@ waiting-sends f j n r z w k = record {
 pub record CanBegin (f : Farm) (j : Job) : Type 0 where
   pub sends : Sends (f .costs) j
   pub show : (1 ≤ j .show) × (j .show ≤ 32)
-  pub room : getD (f .held) (j .show - 1) 0 ≤ 64_000_000_000_000
+  pub room : getD (f .held) (j .show - 1) 0 ≤ mostHeld
 
 module _ (f : Farm) (sized : Sized f) (e : passesOf f ≡ true) where
   pub waiting-few : f .waiting ≤ 128
@@ -130,10 +131,10 @@ module _ (f : Farm) (sized : Sized f) (e : passesOf f ≡ true) where
   waiting-can-begin : All (CanBegin f) (waitingOf f)
   waiting-can-begin =
       let w = passes-within f e in
-      let room : (j : Job) → JobWithin (figuresOf f) j → getD (f .held) (j .show - 1) 0 ≤ 64_000_000_000_000 =
+      let room : (j : Job) → JobWithin (figuresOf f) j → getD (f .held) (j .show - 1) 0 ≤ mostHeld =
       λ j h.
       let i : j .show - 1 < f .shows = omega (arith, h .show) in
-      all-front 0 (λ (x : ℕ). x ≤ 64_000_000_000_000) (f .held) (f .shows) (j .show - 1) i (omega (arith, w .shows .1, sized .held)) (w .held) in
+      all-front 0 (λ (x : ℕ). x ≤ mostHeld) (f .held) (f .shows) (j .show - 1) i (omega (arith, w .shows .1, sized .held)) (w .held) in
       all-both (λ j z h. record {
         sends = waiting-sends f j (w .nodes .1) (w .costs) z (h .0) (h .1);
         show = (h .0 .show .0, omega (arith, h .0 .show .1, w .shows .1));
@@ -200,7 +201,7 @@ pub moved-is : (f : Farm) (t : ℕ) (ls : List Job) (b : Busy) (hs : List ℕ) (
     → hs ≡ raised (f .held) (linesOfAll (f .costs) ls)
     → k ≡ length (left f t)
     → js ≡ left f t ++ drop k (f .jobs)
-    → record { opened = f .opened; nodes = f .nodes; costs = f .costs; shows = f .shows; allowances = f .allowances; held = hs; clock = t; link = b .link; free = b .free; used = f .used; waiting = k; jobs = js } ≡ movedFarm f t
+    → withJobs (atTime f t b hs) (f .used) k js ≡ movedFarm f t
 moved-is f t ls b hs k js q e₁ e₂ e₃ e₄ =
     let b′ : b ≡ afters (busyOf f) (issued f t) = e₁ ∙ ap (λ (l : List Job). afters (busyOf f) (linesOfAll (f .costs) l)) q in
     let h′ : hs ≡ raised (f .held) (issued f t) = e₂ ∙ ap (λ (l : List Job). raised (f .held) (linesOfAll (f .costs) l)) q in
@@ -310,20 +311,7 @@ move-stays f t n r jobs x g =
 
 -- the farm with another clock
 abbrev pub clockAt : Farm → ℕ → Farm
-clockAt f t = record {
-  opened = f .opened;
-  nodes = f .nodes;
-  costs = f .costs;
-  shows = f .shows;
-  allowances = f .allowances;
-  held = f .held;
-  clock = t;
-  link = f .link;
-  free = f .free;
-  used = f .used;
-  waiting = f .waiting;
-  jobs = f .jobs;
-}
+clockAt f t = atTime f t (busyOf f) (f .held)
 
 module _ (f : Farm) (t : ℕ) (few : f .waiting ≤ length (f .jobs)) (late : All (λ (j : Job). startsBy t j ≡ false) (waitingOf f)) where
   pub none-begun : begun f t ≡ []

@@ -1,6 +1,7 @@
 -- What a reader must believe is Model, Passes, Calls and Clock; the others are what the functions need and promise each other.
 pub mod Model
 pub mod Passes
+pub mod Changes
 pub mod PassesSteps
 pub mod Calls
 pub mod CallsSteps

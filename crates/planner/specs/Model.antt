@@ -1,6 +1,6 @@
 -- The farm's figures, in the words and the order of document 01. Everything here is a definition; nothing is assumed.
 -- Jobs, chunks, spans and the deadline walk are those of the crate walk, and the limits those of the crate limits.
-pub use Rattle.limits.specs.Model.{between, Between}
+pub use Rattle.limits.specs.Model.{mostHeld, between, Between}
 unfoldable pub use Rattle.limits.specs.Model.{allAtMost, allAtLeast, costsWithin}
 pub use Rattle.walk.specs.Model.{greatest, emptyJob, noJob, costsFor, defaultCosts, ownCosts, linesOf, finishOf, Span, spansOf, JobSized, Includes, Apart, after, inOrder, byTime, deadlineOf, startOf, byDeadline, byStart, requestOf, booked, step, busyAfter}
 unfoldable pub use Rattle.walk.specs.Model.{chunksFrom, spansOfAll, afters, fitAll, keysBy, plan, booksAll}

@@ -1,14 +1,15 @@
 -- An offer to a farm that passes question 11: what the functions of src/offers.rt promise each other.
 use mathlib.Core.Path.{_≡_, refl, ap, sym, subst, _∙_}
-use mathlib.Core.List.{List, [], _∷_, _++_}
-use mathlib.Core.Bool.{Bool, true, false, cond, _&&_, false≢true}
-use Prim.Native.Nat.{ℕ, zero, suc, _+_, _<_}
+use mathlib.Core.List.{List, [], _∷_, _++_, List·Memᴰ, List·Memᴰ·head}
+use mathlib.Core.Bool.{Bool, true, false, cond, _&&_}
+use Prim.Native.Nat.{ℕ, _+_, _≤_, _<_}
 use native.Mathlib.Omega.{arith}
-use borrow.Author.Tests.{eq-eqb, ne-eqb}
+use native.Mathlib.Numerals.{add-one}
+use borrow.Author.Tests.{eq-eqb}
 use lib.Dec.{leb, ltb, eqb}
-use lib.ListN.{length, getD, drop, length-append, List·getD-append}
-use lib.Seq.{length-take-le}
-use Rattle.lists.specs.Laws.{All, Pairs, all-nth, all-map, pairs-join, perm-length, perm-pairs}
+use lib.ListN.{length, getD, take, drop, set, length-append, List·getD-append}
+use lib.Seq.{take-at, take-suc-set, drop-set-lt, length-take-le}
+use Rattle.lists.specs.Laws.{all-nth, all-map, mem-image, mem-right, perm-length, perm-mem}
 use Rattle.limits.specs.Says.{between-is}
 use Rattle.booking.specs.Model.{bookingOf}
 use Rattle.walk.specs.declared.Job.{Job}
@@ -17,20 +18,24 @@ use Rattle.walk.specs.declared.Busy.{Busy}
 use Rattle.walk.specs.declared.Plan.{Plan}
 use Rattle.walk.specs.Chunks.{Sends}
 use Rattle.walk.specs.Order.{by-deadline-perm}
-use Rattle.walk.specs.Plan.{plan-length, plan-sends}
-use Rattle.walk.specs.WalkSteps.{Walked}
-use Rattle.walk.specs.BestWalk.{walk-best}
+use Rattle.walk.specs.Plan.{plan-numbers, plan-length, plan-sends}
+use Rattle.walk.specs.WalkSteps.{Ready, Walked, books-feasible}
+use Rattle.queue.specs.Numbers.{numberOfJob, has-number}
+use Rattle.queue.specs.Steps.{placeOf, place-job, has-place}
 use Rattle.answers.specs.Steps.{no-number}
 use Rattle.planner.specs.declared.Farm.{Farm}
 use Rattle.answers.specs.declared.Offer.{Offer}
 use Rattle.answers.specs.declared.Question.{Question}
+use Rattle.answers.specs.declared.Question.the-variants as question
+use Rattle.answers.specs.declared.Answer.{Answer}
 use Rattle.answers.specs.declared.Answer.the-variants as answer
 use Rattle.planner.specs.declared.Decision.{Decision}
-use Rattle.planner.specs.Model.{greatest, between, noJob, waitingOf, termsOf, busyOf, busyAfter, byDeadline, plan, booksAll}
+use Rattle.planner.specs.Model.{greatest, between, noJob, waitingOf, termsOf, busyOf, byDeadline, plan, booksAll}
 use Rattle.planner.specs.Passes.{passesOf}
-use Rattle.planner.specs.Calls.{said, refused, numberOf, computeOf, OfferGranted, newJob, accepts, nextFarm, ofNumber, yesOf, offerAsked, offerSaid, offerFarm}
-use Rattle.planner.specs.PassesSteps.{passes-within, passes-jobs}
-use Rattle.planner.specs.CallsSteps.{Offered, walk-ready, deadline-is, place-is}
+use Rattle.planner.specs.Changes.{withJobs}
+use Rattle.planner.specs.Calls.{Said, said, refused, hasNumber, ofNumber, numberOf, computeOf, OfferGranted, newJob, withPlan, yesOf, offerAsked, offerSaid, offerFarm}
+use Rattle.planner.specs.PassesSteps.{passes-within}
+use Rattle.planner.specs.CallsSteps.{Decides, Offered, offer-ready, walk-ready, deadline-is, place-is}
 
 asked-yes : (a b c p d e : Bool) → _≡_ {A = ℕ} (cond a (cond b (cond c (cond p (cond d (cond e 0 7) 6) 2) 5) 4) 11) 0
     → (a ≡ true) × (b ≡ true) × (c ≡ true) × (p ≡ true) × (d ≡ true) × (e ≡ true)
@@ -58,7 +63,7 @@ offer-granted f o h =
 
 -- The new job may be walked.
 pub offer-offered : (f : Farm) (o : Offer) → OfferGranted f o → Offered f (newJob f o)
-offer-offered f o g = record { passes = g .passes; size = g .size .0; deadline = g .deadline .1; compute = g .compute .1; waiting = g .place .0 }
+offer-offered f o g = record { passes = g .passes; size = g .size .0; deadline = g .deadline .1; compute = g .compute .1; waiting = g .place .0; used = g .place .1 }
 
 -- A job with the compute cost that was worked out is the new job.
 pub new-job-is : (f : Farm) (o : Offer) (p : ℕ) (j : Job) → j ≡ record { number = f .used + 1; show = o .show; size = o .size; compute = p; deadline = o .deadline; booking = bookingOf 0 [] [] } → p ≡ computeOf f o → j ≡ newJob f o
@@ -66,101 +71,112 @@ new-job-is f o p j e h = e ∙ rw h
 
 -- ---- The new job in the plan
 
--- at most one of these jobs has the number n
-abbrev Once : ℕ → List Job → Type 0
-Once n js = Pairs (λ (a b : Job). a .number ≡ n → b .number ≡ n → ⊥) js
+-- what the walk of the waiting jobs and a new one says, and the farm that it leaves
+abbrev pub walkSaid : Farm → Job → Said
+walkSaid f j =
+    cond (booksAll (termsOf f) (busyOf f) (byDeadline (waitingOf f ++ j ∷ []))) (yesOf (f .costs) (ofNumber (j .number) (plan (termsOf f) (busyOf f) (byDeadline (waitingOf f ++ j ∷ []))))) (refused 8)
 
--- A plan keeps the numbers.
-plan-numbers : (P : ℕ → Type 0) (w : Terms) (b : Busy) (js : List Job) → All (λ (j : Job). P (j .number)) js → All (λ (j : Job). P (j .number)) (plan w b js)
-unfolding plan
-plan-numbers P w b [] h = tt
-plan-numbers P w b (j ∷ js) h = (h .0, plan-numbers P w (busyAfter w b j) js (h .1))
+abbrev pub walkFarm : Farm → Job → Farm
+walkFarm f j = cond (booksAll (termsOf f) (busyOf f) (byDeadline (waitingOf f ++ j ∷ []))) (withPlan f (plan (termsOf f) (busyOf f) (byDeadline (waitingOf f ++ j ∷ [])))) f
 
-plan-once : (n : ℕ) (w : Terms) (b : Busy) (js : List Job) → Once n js → Once n (plan w b js)
-unfolding plan
-plan-once n w b [] h = tt
-plan-once n w b (j ∷ js) h = (plan-numbers (λ (k : ℕ). j .number ≡ n → k ≡ n → ⊥) w (busyAfter w b j) js (h .0), plan-once n w (busyAfter w b j) js (h .1))
+-- A plan of some jobs and a new one has one of that one's number.
+pub planned-has : (w : Terms) (b : Busy) (js : List Job) (j : Job) → hasNumber (j .number) (plan w b (byDeadline (js ++ j ∷ []))) ≡ true
+planned-has w b js j =
+    let m : List·Memᴰ j (byDeadline (js ++ j ∷ [])) = perm-mem (by-deadline-perm (js ++ j ∷ [])) (mem-right js (List·Memᴰ·head refl)) in
+    has-number (plan w b (byDeadline (js ++ j ∷ []))) (j .number) (subst (List·Memᴰ (j .number)) (sym (plan-numbers w b (byDeadline (js ++ j ∷ [])))) (mem-image numberOfJob m))
 
--- The job at a place that has the number is the job of that number.
-number-at : (n i : ℕ) (js : List Job) → Once n js → i < length js → getD js i noJob .number ≡ n → ofNumber n js ≡ getD js i noJob
-unfolding ofNumber
-number-at n i [] h l e = absurd (omega arith)
-number-at n zero (j ∷ js) h l e = rw (eq-eqb (j .number) n e)
-number-at n (suc i) (j ∷ js) h l e =
-    let other : j .number ≡ n → ⊥ = λ q. all-nth noJob (λ (b : Job). j .number ≡ n → b .number ≡ n → ⊥) js i (h .0) (omega arith) q e in
-    rw (ne-eqb (j .number) n other) (number-at n i js (h .1) (omega arith) e)
+-- The plan of a queue has its jobs.
+pub planned-count : (w : Terms) (b : Busy) (js : List Job) → length (plan w b (byDeadline js)) ≡ length js
+planned-count w b js = plan-length w b (byDeadline js) ∙ sym (perm-length (by-deadline-perm js))
 
-module _ (f : Farm) (j : Job) (o : Offered f j) (new : j .number ≡ f .used + 1) where
-  -- what is walked, and its plan
-  abbrev queue : List Job
-  queue = byDeadline (waitingOf f ++ j ∷ [])
+module _ (f : Farm) (j : Job) (o : Offered f j) (free : length (f .free) ≡ 64) (full : length (f .jobs) ≡ 128) where
+  -- the array with the new job behind the waiting ones
+  abbrev pub queued : List Job
+  queued = set (f .jobs) (f .waiting) j
 
-  -- The new number is that of no waiting job.
-  queue-once : Once (j .number) queue
-  queue-once =
-      let old : All (λ (a : Job). a .number ≡ j .number → ⊥) (waitingOf f) = all-map (λ a h e. omega (arith, h .0 .number .1)) (waitingOf f) (passes-jobs f (o .passes)) in
-      perm-pairs (λ (a b : Job). a .number ≡ j .number → b .number ≡ j .number → ⊥) (λ a b h p q. h q p) (by-deadline-perm (waitingOf f ++ j ∷ []))
-      (pairs-join (λ (a b : Job). a .number ≡ j .number → b .number ≡ j .number → ⊥) (waitingOf f) (j ∷ []) (old-once (waitingOf f) old) (tt, tt)
-      (all-map (λ a h. (λ p q. h p, tt)) (waitingOf f) old))
-    where
-      old-once : (js : List Job) → All (λ (a : Job). a .number ≡ j .number → ⊥) js → Pairs (λ (a b : Job). a .number ≡ j .number → b .number ≡ j .number → ⊥) js
-      old-once [] h = tt
-      old-once (a ∷ js) h = (all-map (λ b k p q. h .0 p) js (h .1), old-once js (h .1))
+  -- Its first jobs are the waiting ones and the new one.
+  pub queued-jobs : take (f .waiting + 1) (set (f .jobs) (f .waiting) j) ≡ waitingOf f ++ j ∷ []
+  queued-jobs = rw (add-one (f .waiting)) (take-suc-set (f .jobs) (f .waiting) j (omega (arith, o .waiting)))
 
-  module _ (sized : length (f .free) ≡ 64) (full : length (f .jobs) ≡ 128) (r : Plan) (w : Walked (termsOf f) (busyOf f) (f .jobs) (f .waiting) j r) (ok : r .ok ≡ true) where
-    long : length (plan (termsOf f) (busyOf f) queue) ≡ f .waiting + 1
-    long =
-        plan-length (termsOf f) (busyOf f) queue ∙ sym (perm-length (by-deadline-perm (waitingOf f ++ j ∷ []))) ∙ length-append (waitingOf f) (j ∷ [])
-        ∙ ap (λ (x : ℕ). x + 1) (length-take-le (f .waiting) (f .jobs) (omega (arith, o .waiting)))
+  -- What the walk of them starts from.
+  pub queued-ready : (f .waiting + 1 ≤ 128) × Ready (termsOf f) (busyOf f) (take (f .waiting + 1) (set (f .jobs) (f .waiting) j))
+  queued-ready = (omega (arith, o .waiting), rw queued-jobs (offer-ready f j o))
 
-    at-place : getD (r .jobs) (r .place) noJob ≡ getD (plan (termsOf f) (busyOf f) queue) (r .place) noJob
-    at-place = ap (λ (js : List Job). getD js (r .place) noJob) (w .plans ok) ∙ List·getD-append (plan (termsOf f) (busyOf f) queue) _ noJob (r .place) (omega (arith, long, w .place ok .0))
+  abbrev planOf : List Job
+  planOf = plan (termsOf f) (busyOf f) (byDeadline (waitingOf f ++ j ∷ []))
 
-    -- The job at the walk's place is the job of the new number.
-    pub new-at : getD (r .jobs) (r .place) noJob ≡ ofNumber (j .number) (plan (termsOf f) (busyOf f) queue)
-    new-at =
-        at-place
-        ∙ sym (number-at (j .number) (r .place) (plan (termsOf f) (busyOf f) queue) (plan-once (j .number) (termsOf f) (busyOf f) queue queue-once) (omega (arith, long, w .place ok .0))
-        (ap (λ (x : Job). x .number) (sym at-place) ∙ w .place ok .1))
+  count : length planOf ≡ f .waiting + 1
+  count = planned-count (termsOf f) (busyOf f) (waitingOf f ++ j ∷ []) ∙ length-append (waitingOf f) (j ∷ []) ∙ ap (λ (x : ℕ). x + 1) (length-take-le (f .waiting) (f .jobs) (omega (arith, o .waiting)))
 
-    -- Its chunks can be worked out.
-    pub new-sends : Sends (f .costs) (getD (r .jobs) (r .place) noJob)
-    new-sends =
-        let g = passes-within f (o .passes) in
-        let ready = walk-ready f j o in
-        let best = walk-best (termsOf f) (busyOf f) queue ready (omega (arith, g .nodes .1)) (sym (w .books) ∙ ok) in
-        subst (Sends (f .costs)) (sym at-place)
-        (all-nth noJob (Sends (f .costs)) (plan (termsOf f) (busyOf f) queue) (r .place) (plan-sends (termsOf f) (busyOf f) queue (g .nodes .1) (g .costs) sized (ready .jobs) best) (omega (arith, long, w .place ok .0)))
+  module _ (r : Plan) (w : Walked (termsOf f) (busyOf f) queued (f .waiting + 1) r) where
+    books : r .ok ≡ booksAll (termsOf f) (busyOf f) (byDeadline (waitingOf f ++ j ∷ []))
+    books = w .books ∙ ap (λ (js : List Job). booksAll (termsOf f) (busyOf f) (byDeadline js)) queued-jobs
 
--- what question 8 comes to for a new job
-pub record Planned (f : Farm) (j : Job) (r : Decision) : Type 0 where
-  pub books : r .granted ≡ booksAll (termsOf f) (busyOf f) (byDeadline (waitingOf f ++ j ∷ []))
-  pub plans : r .granted ≡ true → r .jobs ≡ plan (termsOf f) (busyOf f) (byDeadline (waitingOf f ++ j ∷ [])) ++ drop (f .waiting + 1) (f .jobs)
-  pub says : said (r .answer) ≡ cond (r .granted) (yesOf (f .costs) (ofNumber (j .number) (plan (termsOf f) (busyOf f) (byDeadline (waitingOf f ++ j ∷ []))))) (refused 8)
+    -- Not all are booked.
+    pub walk-refuses : r .ok ≡ false → (js : List Job) → Decides f (walkSaid f j) (walkFarm f j) (record { granted = false; answer = answer.No question.Walk; used = f .used; waiting = f .waiting; jobs = js })
+    walk-refuses e js = let no = sym books ∙ e in record { says = rw no; hands = rw no }
 
--- what an offer to a farm that passes comes to
-pub record Decides (f : Farm) (o : Offer) (r : Decision) : Type 0 where
-  pub says : said (r .answer) ≡ offerSaid f o
-  -- accepted: one number more is used, and these jobs wait
-  pub accepts : r .granted ≡ true → (offerFarm f o ≡ nextFarm f (r .jobs)) × (f .waiting < 128) × (f .used < greatest)
-  pub refuses : r .granted ≡ false → offerFarm f o ≡ f
+    module _ (ok : r .ok ≡ true) where
+      plans : r .jobs ≡ planOf ++ drop (f .waiting + 1) (f .jobs)
+      plans = w .plans ok ∙ rw queued-jobs (ap (λ (l : List Job). planOf ++ l) (drop-set-lt (f .waiting + 1) (f .jobs) (f .waiting) j (omega arith)))
+
+      pub planned-long : f .waiting + 1 ≤ length (r .jobs)
+      planned-long = omega (arith, ap length plans, length-append planOf (drop (f .waiting + 1) (f .jobs)), count)
+
+      front : take (f .waiting + 1) (r .jobs) ≡ planOf
+      front = ap (take (f .waiting + 1)) plans ∙ take-at planOf (drop (f .waiting + 1) (f .jobs)) (f .waiting + 1) count
+
+      module _ (place : ℕ) (at : placeOf (j .number) (take (f .waiting + 1) (r .jobs)) ≡ place) where
+        at-plan : place ≡ placeOf (j .number) planOf
+        at-plan = sym at ∙ ap (placeOf (j .number)) front
+
+        within : placeOf (j .number) planOf < length planOf
+        within = has-place (j .number) planOf (planned-has (termsOf f) (busyOf f) (waitingOf f) j)
+
+        -- The number stands in the plan.
+        pub new-within : place < f .waiting + 1
+        new-within = omega (arith, at-plan, within, count)
+
+        -- The job there is the job of the new number.
+        new-at : getD (r .jobs) place noJob ≡ ofNumber (j .number) planOf
+        new-at =
+            ap (λ (js : List Job). getD js place noJob) plans
+            ∙ List·getD-append planOf (drop (f .waiting + 1) (f .jobs)) noJob place (omega (arith, at-plan, within))
+            ∙ ap (λ (k : ℕ). getD planOf k noJob) at-plan
+            ∙ place-job (j .number) planOf within
+
+        -- Its chunks can be worked out.
+        pub new-sends : Sends (f .costs) (getD (r .jobs) place noJob)
+        new-sends =
+            let g = passes-within f (o .passes) in
+            let ready = walk-ready f j o in
+            let queue = byDeadline (waitingOf f ++ j ∷ []) in
+            let feasible = books-feasible (termsOf f) (busyOf f) queue (ready .answered) (omega (arith, g .nodes .1)) (all-map (λ x h. h .0) queue (ready .jobs)) (sym books ∙ ok) in
+            let here : getD (r .jobs) place noJob ≡ getD planOf place noJob = ap (λ (js : List Job). getD js place noJob) plans ∙ List·getD-append planOf (drop (f .waiting + 1) (f .jobs)) noJob place (omega (arith, at-plan, within)) in
+            subst (Sends (f .costs)) (sym here)
+            (all-nth noJob (Sends (f .costs)) planOf place (plan-sends (termsOf f) (busyOf f) queue (g .nodes .1) (g .costs) free (ready .jobs) feasible) (omega (arith, at-plan, within)))
+
+        -- All are booked, and the new job is told.
+        pub walk-accepts : (a : Answer) → said a ≡ yesOf (f .costs) (getD (r .jobs) place noJob)
+            → Decides f (walkSaid f j) (walkFarm f j) (record { granted = true; answer = a; used = f .used + 1; waiting = f .waiting + 1; jobs = r .jobs })
+        walk-accepts a e =
+            let yes′ = sym books ∙ ok in
+            record {
+              says = e ∙ ap (yesOf (f .costs)) new-at ∙ sym (rw yes′);
+              hands = rw (yes′, count) (ap (withJobs f (f .used + 1) (f .waiting + 1)) plans);
+            }
 
 module _ (f : Farm) (o : Offer) where
   -- A question before the walk stops it.
-  pub decides-no : (q : Question) (js : List Job) → numberOf q ≡ offerAsked f o → Decides f o (record { granted = false; answer = answer.No q; jobs = js })
+  pub decides-no : (q : Question) (u n : ℕ) (js : List Job) → numberOf q ≡ offerAsked f o → Decides f (offerSaid f o) (offerFarm f o) (record { granted = false; answer = answer.No q; used = u; waiting = n; jobs = js })
   unfolding offerSaid offerFarm
-  decides-no q js e =
-      let n : eqb (offerAsked f o) 0 ≡ false = ap (λ (k : ℕ). eqb k 0) (sym e) ∙ no-number q in
-      record { says = rw (n, e); accepts = λ h. absurd (false≢true h); refuses = λ h. rw n }
+  decides-no q u n js e =
+      let no : eqb (offerAsked f o) 0 ≡ false = ap (λ (k : ℕ). eqb k 0) (sym e) ∙ no-number q in
+      record { says = rw (no, e); hands = rw no }
 
   -- Past those, the walk decides it.
-  pub decides-planned : (r : Decision) → offerAsked f o ≡ 0 → Planned f (newJob f o) r → Decides f o r
+  pub decides-planned : (d : Decision) → offerAsked f o ≡ 0 → Decides f (walkSaid f (newJob f o)) (walkFarm f (newJob f o)) d → Decides f (offerSaid f o) (offerFarm f o) d
   unfolding offerSaid offerFarm
-  decides-planned r e p =
+  decides-planned d e x =
       let y : eqb (offerAsked f o) 0 ≡ true = eq-eqb (offerAsked f o) 0 e in
-      let g = offer-granted f o e in
-      record {
-        says = p .says ∙ rw (y, ← p .books);
-        accepts = λ h. (rw (y, ← p .books, h, p .plans h), g .place .0, g .place .1);
-        refuses = λ h. rw (y, ← p .books, h);
-      }
+      record { says = x .says ∙ sym (rw y); hands = x .hands ∙ sym (rw y) }

@@ -12,7 +12,7 @@ use lib.ListN.{take}
 use Rattle.lists.specs.Laws.{All}
 use Rattle.soundness.specs.declared.Figures.{Figures}
 use Rattle.planner.specs.declared.Farm.{Farm}
-use Rattle.planner.specs.Model.{greatest, between, allAtMost, costsWithin, waitingOf, busyOf, Between}
+use Rattle.planner.specs.Model.{greatest, mostHeld, between, allAtMost, costsWithin, waitingOf, busyOf, Between}
 
 -- ---- The test
 
@@ -23,7 +23,7 @@ countsWithin f =
     && costsWithin (f .costs)
     && between 1 (f .shows) 32
     && allAtMost greatest (take (f .shows) (f .allowances))
-    && allAtMost 64_000_000_000_000 (take (f .shows) (f .held))
+    && allAtMost mostHeld (take (f .shows) (f .held))
 
 -- .. and the times, with the counts of jobs
 unfoldable pub timesWithin : Farm → Bool
@@ -46,7 +46,7 @@ pub record Within (f : Farm) : Type 0 where
   pub costs : CostsWithin (f .costs)
   pub shows : Between 1 (f .shows) 32
   pub allowances : All (λ (x : ℕ). x ≤ greatest) (take (f .shows) (f .allowances))
-  pub held : All (λ (x : ℕ). x ≤ 64_000_000_000_000) (take (f .shows) (f .held))
+  pub held : All (λ (x : ℕ). x ≤ mostHeld) (take (f .shows) (f .held))
   pub clock : f .clock ≤ greatest
   pub link : f .link ≤ greatest
   pub free : All (λ (x : ℕ). x ≤ greatest) (take (f .nodes) (f .free))

@@ -9,7 +9,7 @@ use Rattle.walk.specs.declared.Job.{Job}
 use Rattle.soundness.specs.Model.{jobsPass, allDiffer}
 use Rattle.soundness.specs.Sound.{Usable, JobKept, says-jobs}
 use Rattle.planner.specs.declared.Farm.{Farm}
-use Rattle.planner.specs.Model.{greatest, waitingOf, busyOf}
+use Rattle.planner.specs.Model.{greatest, mostHeld, waitingOf, busyOf}
 use Rattle.planner.specs.Passes.{countsWithin, timesWithin, figuresOf, numbersOf, waitingPass, passesOf, JobWithin, Within}
 
 -- opened, and its figures within their limits
@@ -39,7 +39,7 @@ says-within f =
     (says-both
     (says-both (says-both (says-between 1 (f .nodes) 64) (says-costs (f .costs))) (says-between 1 (f .shows) 32))
     (says-at-most greatest (take (f .shows) (f .allowances))))
-    (says-at-most 64_000_000_000_000 (take (f .shows) (f .held))))
+    (says-at-most mostHeld (take (f .shows) (f .held))))
     (says-both
     (says-both
     (says-both (says-both (says-le (f .clock) greatest) (says-le (f .link) greatest)) (says-at-most greatest (take (f .nodes) (f .free))))

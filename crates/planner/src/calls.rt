@@ -6,6 +6,8 @@ ghost use mathlib.Core.List.{_++_};
 ghost use lib.ListN.{length, replicate};
 ghost use Rattle.planner.specs.Passes.{passesOf};
 ghost use Rattle.planner.specs.Calls.{said, Replies, unopened, openSaid, openFarm, accountSaid};
+ghost use Rattle.planner.specs.CallsSteps.{decidedFarm};
+use crate::Decision;
 use crate::Farm;
 use crate::Reply;
 use crate::passing::passes;
@@ -136,6 +138,21 @@ impl Farm {
         let allowances = self.allowances;
         columns(held, allowances, show)
     }
+}
+
+// The reply of a decision: where it is granted, the farm with what it says of the waiting jobs.
+pub fn decided(farm: Farm, decision: Decision) -> Reply
+    ensures { λ r. ⌜ r ≡ record { answer = decision .answer; farm = decidedFarm farm decision } ⌝ }
+{
+    let answer = decision.answer;
+    let mut next = farm;
+    if decision.granted {
+        let jobs = decision.jobs;
+        next.used = decision.used;
+        next.waiting = decision.waiting;
+        next.jobs = jobs;
+    }
+    Reply { answer, farm: next }
 }
 
 // A refusal hands back the farm as it was.

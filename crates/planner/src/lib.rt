@@ -36,10 +36,13 @@ pub struct Reply {
     pub farm: Farm,
 }
 
-// What an offer or a withdrawal comes to: whether it is granted, its answer and, where it is granted, the jobs that wait then.
+// What a call that decides about the waiting jobs comes to: whether it is granted, its answer and, where it is granted, the
+// count of numbers used then and the first `waiting` of these jobs, which wait then.
 pub struct Decision {
     pub granted: bool,
     pub answer: Answer,
+    pub used: u64,
+    pub waiting: usize,
     pub jobs: [Job; 128],
 }
 

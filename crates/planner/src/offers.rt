@@ -1,14 +1,14 @@
 // An offer: its questions, the walk of the waiting jobs and the new one, and what it is told.
 ghost use mathlib.Core.Bool.{true};
 ghost use mathlib.Core.Path.{_≡_};
-ghost use Prim.Native.Nat.{_+_};
 ghost use Rattle.planner.specs.Passes.{passesOf};
 ghost use Rattle.planner.specs.Calls.{Replies, offerSaid, offerFarm};
-ghost use Rattle.planner.specs.CallsSteps.{Offered};
-ghost use Rattle.planner.specs.OfferSteps.{Planned, Decides};
+ghost use Rattle.planner.specs.CallsSteps.{Decides, Offered};
+ghost use Rattle.planner.specs.OfferSteps.{walkSaid, walkFarm};
 use crate::Decision;
 use crate::Farm;
 use crate::Reply;
+use crate::calls::decided;
 use crate::calls::refused;
 use crate::passing::passes;
 use answers::Answer;
@@ -24,10 +24,11 @@ use walk::Job;
 use walk::Terms;
 use walk::walked;
 
-// Question 8: whether the walk books every waiting job and the new one, and the jobs with their bookings.
+// Question 8: whether the walk books every waiting job and the new one, and the jobs with their bookings. The job of the new
+// number is looked for here: a function that took the jobs would copy them.
 fn planned(farm: Farm, job: Job) -> Decision
-    requires { ⌜ Offered farm job × (job .number ≡ farm .used + 1) ⌝ }
-    ensures { λ r. ⌜ Planned farm job r ⌝ }
+    requires { ⌜ Offered farm job ⌝ }
+    ensures { λ r. ⌜ Decides farm (walkSaid farm job) (walkFarm farm job) r ⌝ }
 {
     let costs = farm.costs;
     let terms = Terms {
@@ -40,21 +41,37 @@ fn planned(farm: Farm, job: Job) -> Decision
         link: farm.link,
         free,
     };
-    let waiting = farm.jobs;
-    let plan = walked(terms, busy, waiting, farm.waiting, job);
+    let used = farm.used;
+    let waiting = farm.waiting;
+    let count = waiting + 1;
+    let mut queue = farm.jobs;
+    queue[waiting] = job;
+    let plan = walked(terms, busy, queue, count);
     let jobs = plan.jobs;
     if !plan.ok {
         return Decision {
             granted: false,
             answer: Answer::No(Question::Walk),
+            used,
+            waiting,
             jobs,
         };
     }
-    let place = plan.place;
-    let new = jobs[place];
+    let mut place = 0;
+    let mut end = count;
+    while place < end {
+        let other = jobs[place];
+        if other.number == job.number {
+            end = place;
+        } else {
+            place += 1;
+        }
+    }
     Decision {
         granted: true,
-        answer: yes(costs, new),
+        answer: yes(costs, jobs[place]),
+        used: used + 1,
+        waiting: count,
         jobs,
     }
 }
@@ -67,23 +84,14 @@ impl Farm {
         if !passes(self) {
             return refused(self, Question::Farm);
         }
-        let decision = self.offer_unchecked(offer);
-        let mut farm = self;
-        if decision.granted {
-            let jobs = decision.jobs;
-            farm.used += 1;
-            farm.waiting += 1;
-            farm.jobs = jobs;
-        }
-        let answer = decision.answer;
-        Reply { answer, farm }
+        decided(self, self.offer_unchecked(offer))
     }
 
     // An offer to a farm that passes question 11: what it is told and, where it is accepted, the jobs that wait then. The caller
     // keeps the farm, so that a refusal copies nothing back.
     pub fn offer_unchecked(self, offer: Offer) -> Decision
         requires { ⌜ passesOf self ≡ true ⌝ }
-        ensures { λ r. ⌜ Decides self offer r ⌝ }
+        ensures { λ r. ⌜ Decides self (offerSaid self offer) (offerFarm self offer) r ⌝ }
     {
         let jobs = self.jobs;
         let costs = self.costs;
@@ -101,6 +109,8 @@ impl Farm {
             Asked::No(question) => Decision {
                 granted: false,
                 answer: Answer::No(question),
+                used: self.used,
+                waiting: self.waiting,
                 jobs,
             },
             Asked::Yes => planned(

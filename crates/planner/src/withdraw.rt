@@ -3,10 +3,11 @@ ghost use mathlib.Core.Bool.{true};
 ghost use mathlib.Core.Path.{_≡_};
 ghost use Rattle.planner.specs.Passes.{passesOf};
 ghost use Rattle.planner.specs.Calls.{Replies, withdrawSaid, withdrawFarm};
-ghost use Rattle.planner.specs.WithdrawSteps.{DecidesWithdraw};
+ghost use Rattle.planner.specs.CallsSteps.{Decides};
 use crate::Decision;
 use crate::Farm;
 use crate::Reply;
+use crate::calls::decided;
 use crate::calls::refused;
 use crate::passing::passes;
 use answers::Answer;
@@ -22,21 +23,13 @@ impl Farm {
         if !passes(self) {
             return refused(self, Question::Farm);
         }
-        let decision = self.withdraw_unchecked(number);
-        let mut farm = self;
-        if decision.granted {
-            let jobs = decision.jobs;
-            farm.waiting -= 1;
-            farm.jobs = jobs;
-        }
-        let answer = decision.answer;
-        Reply { answer, farm }
+        decided(self, self.withdraw_unchecked(number))
     }
 
     // The same of a farm that passes question 11: what it is told and, where the number waits, the jobs that wait then. The caller keeps the farm.
     pub fn withdraw_unchecked(self, number: u64) -> Decision
         requires { ⌜ passesOf self ≡ true ⌝ }
-        ensures { λ r. ⌜ DecidesWithdraw self number r ⌝ }
+        ensures { λ r. ⌜ Decides self (withdrawSaid self number) (withdrawFarm self number) r ⌝ }
     {
         let jobs = self.jobs;
         let waiting = self.waiting;
@@ -45,12 +38,16 @@ impl Farm {
             return Decision {
                 granted: false,
                 answer: Answer::No(Question::Waiting),
+                used: self.used,
+                waiting,
                 jobs,
             };
         }
         Decision {
             granted: true,
             answer: Answer::Gone { job: number },
+            used: self.used,
+            waiting: waiting - 1,
             jobs: closed_up(jobs, waiting, place),
         }
     }

@@ -13,7 +13,7 @@ use Rattle.lists.specs.Keep.{keep}
 use Rattle.timetable.specs.Model.{startsAfter}
 use Rattle.timetable.specs.BeginSteps.{keep-next, keep-past}
 use Rattle.planner.specs.declared.Farm.{Farm}
-use Rattle.planner.specs.Calls.{withWaiting}
+use Rattle.planner.specs.Changes.{withJobs}
 use Rattle.planner.specs.ClockSteps.{moved-is, waiting-few, begins-few, begins-places, begins-raises}
 use Rattle.planner.proofs.Sizes.{farm-sized}
 use Rattle.planner.proofs.Farm.moved.Statement.{statement}
@@ -22,7 +22,7 @@ use Rattle.planner.proofs.Farm.moved.Tie as tie
 abbrev Inv-loop : tie.InvT-loop
 Inv-loop time self₀ waiting kept₀ i₀ self kept i =
     ((waiting ≤ 128) × (i ≤ waiting) × (kept ≤ i))
-    × (self ≡ withWaiting self₀ (self₀ .waiting) (self .jobs))
+    × (self ≡ withJobs self₀ (self₀ .used) (self₀ .waiting) (self .jobs))
     × Kept 128 (keep (startsAfter time) (take waiting (self₀ .jobs))) (self₀ .jobs) (self .jobs) kept (keep (startsAfter time) (drop i (take waiting (self₀ .jobs))))
 
 abbrev μ-loop : tie.MeasureT-loop
@@ -75,7 +75,7 @@ loop-again c =
     (λ x.
     let n = keep-next old (a .t1 .waiting) (l .i) h fits (a .time) (subst (λ (j : Job). a .time < j .booking .start) same (x .0 .taken)) in (
       (l .inv .0 .0, omega (arith, h), omega (arith, x .2, l .inv .0)),
-      rw (x .1) (ap (λ (f : Farm). withWaiting f (f .waiting) (set (l .self .jobs) (l .kept) (getD (l .self .jobs) (l .i) noJob))) (l .inv .1)),
+      rw (x .1) (ap (λ (f : Farm). withJobs f (f .used) (f .waiting) (set (l .self .jobs) (l .kept) (getD (l .self .jobs) (l .i) noJob))) (l .inv .1)),
       rw (x .1, x .2, same) (kept-more 128 _ old (l .self .jobs) (l .kept) (getD old (l .i) noJob) _ (omega (arith, l .inv .0, h)) (subst (Kept 128 _ old (l .self .jobs) (l .kept)) n (l .inv .2))),
     ))
     (λ x.
@@ -96,7 +96,7 @@ returns c =
     let whole = keep (startsAfter (a .time)) (take (a .t1 .waiting) old) in
     let x = subst (λ (js : List Job). Kept 128 whole old (l .self .jobs) (l .kept) (keep (startsAfter (a .time)) js)) none (l .inv .2) in
     let e = kept-all 128 whole old (l .self .jobs) (l .kept) (omega (arith, l .inv .0)) x in
-    ap (λ (f : Farm). withWaiting f (l .kept) (f .jobs)) (l .inv .1)
+    ap (λ (f : Farm). withJobs f (f .used) (l .kept) (f .jobs)) (l .inv .1)
     ∙ moved-is (a .t1) (a .time) _ (b .result .busy) (b .result .held) (l .kept) (l .self .jobs) (s .pre .due .jobs) (b .ensures .0) (b .ensures .1) (e .0) (e .1)
 
 pub moved-spec : {M : Type 1} → statement M

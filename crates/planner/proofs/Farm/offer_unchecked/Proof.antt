@@ -4,8 +4,8 @@ use native.Mathlib.Omega.{arith}
 use Rattle.walk.specs.declared.Job.{Job}
 use Rattle.answers.specs.Steps.{askedOf}
 use Rattle.planner.specs.Calls.{offerAsked}
-use Rattle.planner.specs.CallsSteps.{Offered, asked-passed}
-use Rattle.planner.specs.OfferSteps.{Planned, offer-granted, offer-offered, decides-no, decides-planned, new-job-is}
+use Rattle.planner.specs.CallsSteps.{Decides, Offered, asked-passed}
+use Rattle.planner.specs.OfferSteps.{walkSaid, walkFarm, offer-granted, offer-offered, decides-no, decides-planned, new-job-is}
 use borrow.Author.Needs.{needs}
 use Rattle.planner.proofs.Farm.offer_unchecked.Statement.{statement}
 use Rattle.planner.proofs.Farm.offer_unchecked.Tie as tie
@@ -55,17 +55,15 @@ planned-requires c κs =
     let s = t .before .before .before .before in
     let a = s .args in
     let yes : offerAsked (a .self) (a .offer) ≡ 0 = sym (asked-passed (a .self) (a .offer) _ _ (s .pre) (t .before .compute-or .ensures) (t .ask .ensures)) ∙ ap askedOf (c .before .before .before .enum-told .given .1) in
-    let new = new-job-is (a .self) (a .offer) _ (c .new-job .result) (c .new-job .ensures) (t .before .compute-or .ensures) in (
-      subst (Offered (a .self)) (sym new) (offer-offered (a .self) (a .offer) (offer-granted (a .self) (a .offer) yes)),
-      ap (λ (j : Job). j .number) new,
-    )
+    let new = new-job-is (a .self) (a .offer) _ (c .new-job .result) (c .new-job .ensures) (t .before .compute-or .ensures) in
+    subst (Offered (a .self)) (sym new) (offer-offered (a .self) (a .offer) (offer-granted (a .self) (a .offer) yes))
 
 returns : tie.Need-returns
 returns c =
     let t = c .before .before .before in
     let s = t .before .before .before .before in
     let a = s .args in
-    decides-no (a .self) (a .offer) _ _ (sym (ap askedOf (c .before .first .given .1)) ∙ asked-passed (a .self) (a .offer) _ _ (s .pre) (t .before .compute-or .ensures) (t .ask .ensures))
+    decides-no (a .self) (a .offer) _ _ _ _ (sym (ap askedOf (c .before .first .given .1)) ∙ asked-passed (a .self) (a .offer) _ _ (s .pre) (t .before .compute-or .ensures) (t .ask .ensures))
 
 returns-2 : tie.Need-returns-2
 returns-2 c =
@@ -74,7 +72,7 @@ returns-2 c =
     let a = s .args in
     let yes : offerAsked (a .self) (a .offer) ≡ 0 = sym (asked-passed (a .self) (a .offer) _ _ (s .pre) (t .before .compute-or .ensures) (t .ask .ensures)) ∙ ap askedOf (c .before .before .before .before .enum-told .given .1) in
     let new = new-job-is (a .self) (a .offer) _ (c .before .new-job .result) (c .before .new-job .ensures) (t .before .compute-or .ensures) in
-    decides-planned (a .self) (a .offer) (c .planned .result) yes (subst (λ (j : Job). Planned (a .self) j (c .planned .result)) new (c .planned .ensures))
+    decides-planned (a .self) (a .offer) (c .planned .result) yes (subst (λ (j : Job). Decides (a .self) (walkSaid (a .self) j) (walkFarm (a .self) j) (c .planned .result)) new (c .planned .ensures))
 
 pub offer-unchecked-spec : {M : Type 1} → statement M
 offer-unchecked-spec =

@@ -1,8 +1,8 @@
 -- `planner::Farm::withdraw` meets its contract: question 11, and then what the farm that passes decides.
 use mathlib.Core.Path.{sym, _∙_}
-use native.Mathlib.Omega.{arith}
 use borrow.Author.Tests.{not-true, not-false}
 use Rattle.planner.specs.WithdrawSteps.{withdraw-unsound}
+use Rattle.planner.specs.CallsSteps as steps
 use borrow.Author.Needs.{needs}
 use Rattle.planner.proofs.Farm.withdraw.Statement.{statement}
 use Rattle.planner.proofs.Farm.withdraw.Tie as tie
@@ -21,16 +21,11 @@ returns c =
 withdraw-unchecked-requires : tie.Need-withdraw-unchecked-requires
 withdraw-unchecked-requires c κs = sym (c .before .passes .ensures) ∙ not-false _ (c .if1 .left)
 
-sub-farm : tie.Need-sub-farm
-sub-farm c = omega (arith, c .before .before .before .withdraw-unchecked .ensures .grants (c .before .before .if2 .taken) .1)
+decided-requires : tie.Need-decided-requires
+decided-requires c κs = search needs
 
 returns-2 : tie.Need-returns-2
-returns-2 c =
-    let d = c .before .before .before .withdraw-unchecked .ensures in
-    record { says = d .says; hands = sym (d .grants (c .before .before .if2 .taken) .0) }
-
-returns-3 : tie.Need-returns-3
-returns-3 c = let d = c .before .withdraw-unchecked .ensures in record { says = d .says; hands = sym (d .refuses (c .if2 .left)) }
+returns-2 c = steps.decides-replies _ _ _ _ (c .decided .result) (c .decided .ensures) (c .before .withdraw-unchecked .ensures)
 
 pub withdraw-spec : {M : Type 1} → statement M
 withdraw-spec =
@@ -40,6 +35,5 @@ withdraw-spec =
     refused-requires
     returns
     withdraw-unchecked-requires
-    sub-farm
-    returns-2
-    returns-3)
+    decided-requires
+    returns-2)

@@ -1,57 +1,156 @@
--- `planner::offers::planned` meets its contract: the job at the walk's place is that of the new number.
-use mathlib.Core.Path.{_≡_, refl, sym, ap, _∙_}
-use mathlib.Core.Bool.{true, false, false≢true}
+-- `planner::offers::planned` meets its contract. The loop's invariant: no job passed has the new number, and the search ends where it stands.
+use mathlib.Core.Path.{_≡_}
+use mathlib.Core.Bool.{true}
+use Prim.Native.Nat.{_-_, _<_}
 use native.Mathlib.Omega.{arith}
 use borrow.Author.Tests.{not-true, not-false}
-use Rattle.planner.specs.Calls.{yesOf}
-use Rattle.planner.specs.CallsSteps.{offer-ready}
-use Rattle.planner.specs.OfferSteps.{new-at, new-sends}
+use borrow.Author.Needs.{needs}
+use Rattle.queue.specs.Steps.{Seeking, seek-start, seek-found, seek-on, seek-end}
+use Rattle.planner.specs.OfferSteps.{queued-ready, walk-refuses, planned-long, new-within, new-sends, walk-accepts}
 use Rattle.planner.proofs.Sizes.{farm-free-length, jobs-length}
 use Rattle.planner.proofs.offers.planned.Statement.{statement}
 use Rattle.planner.proofs.offers.planned.Tie as tie
 
-walked-requires : tie.Need-walked-requires
+abbrev Inv-loop : tie.InvT-loop
+Inv-loop job costs used waiting count jobs place₀ end₀ place end = Seeking (job .number) jobs count place end
+
+abbrev μ-loop : tie.MeasureT-loop
+μ-loop job costs used waiting count jobs place₀ end₀ place end = end - place
+
+add-count : tie.Need-add-count Inv-loop μ-loop
+add-count c = omega (arith, c .before .before .pre .waiting)
+
+mul-queue : tie.Need-mul-queue Inv-loop μ-loop
+mul-queue c = omega (arith, c .before .before .before .pre .waiting)
+
+array-set-from-queue : tie.Need-array-set-from-queue Inv-loop μ-loop
+array-set-from-queue c = omega (arith, c .before .before .before .pre .waiting)
+
+walked-requires : tie.Need-walked-requires Inv-loop μ-loop
 walked-requires c κs =
     let s = c .before .before .before in
-    (s .pre .0 .waiting, offer-ready (s .args .farm) (s .args .job) (s .pre .0))
+    let a = s .args in
+    queued-ready (a .farm) (a .job) (s .pre) (farm-free-length (a .farm) (s .good .0)) (jobs-length (a .farm) (s .good .0))
 
-returns : tie.Need-returns
+returns : tie.Need-returns Inv-loop μ-loop
 returns c =
+    let s = c .before .before .before .before .before .before .before in
+    let a = s .args in
     let w = c .before .before .before .walked in
-    let no : w .result .ok ≡ false = not-true _ (c .if1 .taken) in
-    record { books = sym no ∙ w .ensures .books; plans = λ e. absurd (false≢true e); says = refl }
+    walk-refuses (a .farm) (a .job) (s .pre) (farm-free-length (a .farm) (s .good .0)) (jobs-length (a .farm) (s .good .0)) (w .result) (w .ensures) (not-true _ (c .if1 .taken)) _
 
-mul-new : tie.Need-mul-new
-mul-new c =
+loop-holds : tie.Need-loop-holds Inv-loop μ-loop
+loop-holds c =
     let s = c .before .before .before .before .before .before .before in
-    omega (arith, s .pre .0 .waiting, c .before .before .before .walked .ensures .place (not-false _ (c .if1 .left)) .0)
+    let a = s .args in
+    let w = c .before .before .before .walked in
+    seek-start (a .job .number) (w .result .jobs) _ (planned-long (a .farm) (a .job) (s .pre) (farm-free-length (a .farm) (s .good .0)) (jobs-length (a .farm) (s .good .0)) (w .result) (w .ensures) (not-false _ (c .if1 .left)))
 
-array-copy-out-new : tie.Need-array-copy-out-new
-array-copy-out-new c =
-    let s = c .before .before .before .before .before .before .before in
-    omega (arith, s .pre .0 .waiting, c .before .before .before .walked .ensures .place (not-false _ (c .if1 .left)) .0)
+mul-other : tie.Need-mul-other Inv-loop μ-loop
+mul-other c = omega (arith, c .before .loop .inv .1, c .before .before .before .before .before .before .before .before .before .pre .waiting)
 
-yes-requires : tie.Need-yes-requires
+array-copy-out-other : tie.Need-array-copy-out-other Inv-loop μ-loop
+array-copy-out-other c = omega (arith, c .before .loop .inv .1, c .before .before .before .before .before .before .before .before .before .pre .waiting)
+
+loop-less : tie.Need-loop-less Inv-loop μ-loop
+loop-less c = omega (arith, c .before .before .before .before .loop-test .taken)
+
+loop-again : tie.Need-loop-again Inv-loop μ-loop
+loop-again c =
+    let s = c .before .before .before .before .before .before .before .before .before .before .before .before .before in
+    let a = s .args in
+    let w = c .before .before .before .before .before .before .before .before .before .walked in
+    let l = c .before .before .before .before .before .loop in
+    let long = planned-long (a .farm) (a .job) (s .pre) (farm-free-length (a .farm) (s .good .0)) (jobs-length (a .farm) (s .good .0)) (w .result) (w .ensures) (not-false _ (c .before .before .before .before .before .before .if1 .left)) in
+    seek-found (a .job .number) (w .result .jobs) _ long (l .place) (l .end) (l .inv) (c .before .before .before .before .loop-test .taken) (c .if2 .taken)
+
+add-place : tie.Need-add-place Inv-loop μ-loop
+add-place c = omega (arith, c .before .before .before .before .before .loop .inv .1, c .before .before .before .before .loop-test .taken, c .before .before .before .before .before .before .before .before .before .before .before .before .before .pre .waiting)
+
+loop-less-2 : tie.Need-loop-less-2 Inv-loop μ-loop
+loop-less-2 c = omega (arith, c .before .before .before .before .loop-test .taken)
+
+loop-again-2 : tie.Need-loop-again-2 Inv-loop μ-loop
+loop-again-2 c =
+    let s = c .before .before .before .before .before .before .before .before .before .before .before .before .before in
+    let a = s .args in
+    let w = c .before .before .before .before .before .before .before .before .before .walked in
+    let l = c .before .before .before .before .before .loop in
+    let long = planned-long (a .farm) (a .job) (s .pre) (farm-free-length (a .farm) (s .good .0)) (jobs-length (a .farm) (s .good .0)) (w .result) (w .ensures) (not-false _ (c .before .before .before .before .before .before .if1 .left)) in
+    seek-on (a .job .number) (w .result .jobs) _ long (l .place) (l .end) (l .inv) (c .before .before .before .before .loop-test .taken) (c .if2 .left)
+
+mul-yes : tie.Need-mul-yes Inv-loop μ-loop
+mul-yes c =
+    let s = c .before .before .before .before .before .before .before .before .before in
+    let a = s .args in
+    let w = c .before .before .before .before .before .walked in
+    let l = c .before .loop in
+    let free = farm-free-length (a .farm) (s .good .0) in
+    let full = jobs-length (a .farm) (s .good .0) in
+    let ok = not-false _ (c .before .before .if1 .left) in
+    let long = planned-long (a .farm) (a .job) (s .pre) free full (w .result) (w .ensures) ok in
+    omega (arith, s .pre .waiting, new-within (a .farm) (a .job) (s .pre) free full (w .result) (w .ensures) ok (l .place) (seek-end (a .job .number) (w .result .jobs) _ long (l .place) (l .end) (l .inv) (c .loop-test .left)))
+
+array-copy-out-yes : tie.Need-array-copy-out-yes Inv-loop μ-loop
+array-copy-out-yes c =
+    let s = c .before .before .before .before .before .before .before .before .before in
+    let a = s .args in
+    let w = c .before .before .before .before .before .walked in
+    let l = c .before .loop in
+    let free = farm-free-length (a .farm) (s .good .0) in
+    let full = jobs-length (a .farm) (s .good .0) in
+    let ok = not-false _ (c .before .before .if1 .left) in
+    let long = planned-long (a .farm) (a .job) (s .pre) free full (w .result) (w .ensures) ok in
+    omega (arith, s .pre .waiting, new-within (a .farm) (a .job) (s .pre) free full (w .result) (w .ensures) ok (l .place) (seek-end (a .job .number) (w .result .jobs) _ long (l .place) (l .end) (l .inv) (c .loop-test .left)))
+
+yes-requires : tie.Need-yes-requires Inv-loop μ-loop
 yes-requires c κs =
-    let t = c .before in
-    let s = t .before .before .before .before .before .before .before in
+    let s = c .before .before .before .before .before .before .before .before .before .before in
     let a = s .args in
-    let w = t .before .before .before .walked in
-    new-sends (a .farm) (a .job) (s .pre .0) (s .pre .1) (farm-free-length (a .farm) (s .good .0)) (jobs-length (a .farm) (s .good .0)) (w .result) (w .ensures) (not-false _ (t .if1 .left))
+    let w = c .before .before .before .before .before .before .walked in
+    let l = c .before .before .loop in
+    let free = farm-free-length (a .farm) (s .good .0) in
+    let full = jobs-length (a .farm) (s .good .0) in
+    let ok = not-false _ (c .before .before .before .if1 .left) in
+    let long = planned-long (a .farm) (a .job) (s .pre) free full (w .result) (w .ensures) ok in
+    new-sends (a .farm) (a .job) (s .pre) free full (w .result) (w .ensures) ok (l .place) (seek-end (a .job .number) (w .result .jobs) _ long (l .place) (l .end) (l .inv) (c .before .loop-test .left))
 
-returns-2 : tie.Need-returns-2
+add-t33 : tie.Need-add-t33 Inv-loop μ-loop
+add-t33 c = omega (arith, c .before .before .before .before .before .before .before .before .before .before .before .pre .used)
+
+returns-2 : tie.Need-returns-2 Inv-loop μ-loop
 returns-2 c =
-    let t = c .before .before in
-    let s = t .before .before .before .before .before .before .before in
+    let s = c .before .before .before .before .before .before .before .before .before .before .before in
     let a = s .args in
-    let w = t .before .before .before .walked in
-    let ok : w .result .ok ≡ true = not-false _ (t .if1 .left) in
-    record {
-      books = sym ok ∙ w .ensures .books;
-      plans = λ e. w .ensures .plans ok;
-      says = c .yes .ensures ∙ ap (yesOf (a .farm .costs)) (new-at (a .farm) (a .job) (s .pre .0) (s .pre .1) (farm-free-length (a .farm) (s .good .0)) (jobs-length (a .farm) (s .good .0)) (w .result) (w .ensures) ok);
-    }
+    let w = c .before .before .before .before .before .before .before .walked in
+    let l = c .before .before .before .loop in
+    let free = farm-free-length (a .farm) (s .good .0) in
+    let full = jobs-length (a .farm) (s .good .0) in
+    let ok = not-false _ (c .before .before .before .before .if1 .left) in
+    let long = planned-long (a .farm) (a .job) (s .pre) free full (w .result) (w .ensures) ok in
+    walk-accepts (a .farm) (a .job) (s .pre) free full (w .result) (w .ensures) ok (l .place) (seek-end (a .job .number) (w .result .jobs) _ long (l .place) (l .end) (l .inv) (c .before .before .loop-test .left)) (c .yes .result) (c .yes .ensures)
 
 pub planned-spec : {M : Type 1} → statement M
 planned-spec =
-    tie.close (tie.spec walked-requires returns mul-new array-copy-out-new yes-requires returns-2)
+    tie.close
+    (tie.spec
+    Inv-loop
+    μ-loop
+    add-count
+    mul-queue
+    array-set-from-queue
+    walked-requires
+    returns
+    loop-holds
+    mul-other
+    array-copy-out-other
+    loop-less
+    loop-again
+    add-place
+    loop-less-2
+    loop-again-2
+    mul-yes
+    array-copy-out-yes
+    yes-requires
+    add-t33
+    returns-2)
