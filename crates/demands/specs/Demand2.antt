@@ -8,21 +8,22 @@
 --   "Each booking has the earliest start, the fewest nodes that any start allows, and the earliest finish on them,"
 --                                                                                                     jobs (`best`, `unique` of `IsBooking`), books
 --   "in the single-round divisible load model of report UNL-2005-0014 counted in whole units."        `finish` (shares/specs/Model.antt)
--- `IsBooking` is in booking/specs/Best.antt, over `Choice` and `Best`; `InTurn`, `BestAll` and `Fails` are in walk/specs/BestWalk.antt.
+-- `IsBooking` is in booking/specs/Best.antt, over `Choice` and `Best`; `InTurn` is in walk/specs/Model.antt, `BestAll` and `Fails` in BestWalk.antt.
 -- The contract of `Farm::offer` equates what runs with `offerSaid` and `offerFarm`, for all arguments.
 use mathlib.Core.Path.{_≡_, refl, ap, sym, _∙_}
 use mathlib.Core.List.{[], _∷_, _++_, List·Permᴰ}
 use mathlib.Core.Bool.{true, false, false≢true}
 use mathlib.Core.Logic.{⊎-elim, _↔_}
-use Prim.Native.Nat.{ℕ, zero, suc, _≤_, _<_}
+use Prim.Native.Nat.{ℕ, zero, suc, _+_, _≤_, _<_}
 use native.Mathlib.Omega.{arith}
 use lib.ListN.{length}
 use Rattle.lists.specs.Laws.{All, Pairs, all-map}
 use Rattle.booking.specs.Best.{IsBooking}
 use Rattle.walk.specs.declared.Job.{Job}
+use Rattle.walk.specs.Model.{InTurn}
 use Rattle.walk.specs.Order.{Precedes}
 use Rattle.walk.specs.WalkSteps.{Ready}
-use Rattle.walk.specs.BestWalk.{InTurn, BestAll, Fails, walk-iff, walk-each, walked-jobs}
+use Rattle.walk.specs.BestWalk.{BestAll, Fails, walk-iff, walk-each, walked-jobs}
 use Rattle.planner.specs.declared.Farm.{Farm}
 use Rattle.answers.specs.declared.Offer.{Offer}
 use Rattle.planner.specs.Model.{Sized, waitingOf, busyOf, termsOf, deadlineOf, requestOf, step}
@@ -31,7 +32,7 @@ use Rattle.planner.specs.Calls.{Said, refused, newJob, queueOf, planned, accept
 use Rattle.planner.specs.CallsSteps.{walk-ready}
 use Rattle.planner.specs.OfferSteps.{offer-granted, offer-offered}
 use Rattle.demands.specs.Offers.{offer-stopped, granted-asked, offer-is}
-use Rattle.demands.specs.OfferPasses.{waiting-planned}
+use Rattle.planner.specs.Changes.{queue-waits}
 
 -- ---- The claim
 
@@ -94,7 +95,7 @@ demand2 f o sized = record {
   );
   replaces = λ h.
       let t = accepted-plan f o sized h in
-      (t .1, ap waitingOf (t .1) ∙ waiting-planned f o sized (offer-granted f o (passed f o h)) (t .0));
+      (t .1, ap waitingOf (t .1) ∙ queue-waits f (f .used + 1) (planned f o));
   stopped = offer-stopped f o;
   unbooked = λ e n. ⊎-elim (λ x. absurd (false≢true (sym n ∙ x .0))) (λ x. (x .2, x .3)) (offer-is f o (enough f o sized e) e);
   walked = walked-jobs (waitingOf f ++ newJob f o ∷ []);

@@ -33,7 +33,7 @@ use mathlib.Core.Path.{_≡_, refl, ap, sym, subst, _∙_}
 use mathlib.Core.List.{List, [], _∷_, _++_, map, map-map, List·Memᴰ, List·Memᴰ·head, List·Permᴰ, Permᴰ·map, Permᴰ·symm, Permᴰ·append-left}
 use mathlib.Core.Bool.{Bool, true, false, cond, _&&_, false≢true}
 use mathlib.Core.Logic.{_⊎_, inl, inr, ⊎-elim}
-use Prim.Native.Nat.{ℕ, zero, suc, _-_, _≤_, _<_, max}
+use Prim.Native.Nat.{ℕ, zero, suc, _+_, _-_, _≤_, _<_, max}
 use native.Mathlib.Nat.{mul-le-mul-right}
 use native.Mathlib.Omega.{arith}
 use borrow.Author.Tests.{eqb-true, eqb-false}
@@ -50,7 +50,7 @@ use Rattle.walk.specs.declared.Busy.{Busy}
 use Rattle.walk.specs.declared.Chunk.{Chunk}
 use Rattle.planner.specs.declared.Farm.{Farm}
 use Rattle.answers.specs.declared.Offer.{Offer}
-use Rattle.planner.specs.Model.{between, costsWithin, ownCosts, Span, linesOf, spansOf, spansOfAll, Sized, after, afters, byDeadline, byStart, plan, waitingOf, busyOf, termsOf, Between, Apart}
+use Rattle.planner.specs.Model.{mostHeld, between, costsWithin, ownCosts, Span, linesOf, spansOf, spansOfAll, Sized, after, afters, byDeadline, byStart, plan, waitingOf, busyOf, termsOf, Between, Apart}
 use Rattle.planner.specs.Passes.{passesOf}
 use Rattle.walk.specs.Chain.{Fits, Chain, chain-append, Proper, free-same, free-other, after-length, chain-apart}
 use Rattle.walk.specs.Order.{by-start-perm, by-deadline-perm}
@@ -60,7 +60,7 @@ use Rattle.planner.specs.OfferSteps.{offer-offered}
 use Rattle.soundness.specs.Sweep.{spans-all, spans-perm, apart-sym}
 use Rattle.demands.specs.QuestionEleven.{passes-iff}
 use Rattle.planner.specs.Calls.{ofNumber, without, Open, Said, granted, refused, showsWithin, openFarm, openSaid, heldBy, newJob, queueOf, planned, withPlan, asQuote, withdrawnFarm}
-use Rattle.demands.specs.OfferPasses.{waiting-planned}
+use Rattle.planner.specs.Changes.{queue-waits}
 use Rattle.planner.specs.Clock.{holds, linesOfAll, begun, issued, moveAsked}
 use Rattle.demands.specs.Starts.{StartsDiffer, starts-differ, next-few, next-granted}
 use Rattle.demands.specs.CallLists.{Call, offer, quote, withdraw, move, reply, handed, isGranted, linesBy, chunkOf, Accepted, jobsBy, History, opening, note, run, answersOf, withoutQuotes, otherAnswers, heldOf, upTo, linesFor, latestFinish, latestSent, acceptedOf, Fulfils, Waits, IssuesNone, Lifecycle}
@@ -147,7 +147,7 @@ pub record Demand3 (f : Farm) (cs : List Call) (w : History) : Type 0 where
   -- Each show's held ticks equal the sum over its issued chunks.
   pub held : (s : ℕ) → Between 1 s (w .farm .shows) → heldBy (w .farm) s ≡ heldOf s (w .lines)
   -- All held ticks together are at most the sum of the nodes' free times, and no show's are above 64,000,000,000,000.
-  pub limit : (sum (map holds (w .lines)) ≤ sum (w .farm .free)) × All (λ (x : ℕ). x ≤ 64_000_000_000_000) (take (w .farm .shows) (w .farm .held))
+  pub limit : (sum (map holds (w .lines)) ≤ sum (w .farm .free)) × All (λ (x : ℕ). x ≤ mostHeld) (take (w .farm .shows) (w .farm .held))
   -- Each node's free time is the latest finish of a chunk issued on it, and the link's the latest end of an issued send.
   pub free : (k : ℕ) → Between 1 k (w .farm .nodes) → freeAt (w .farm .free) k ≡ latestFinish k (w .lines)
   pub link : w .farm .link ≡ latestSent (w .lines)
@@ -367,7 +367,7 @@ new-among f (offer o) z = ⊎-elim (λ r. subst (All (λ (x : Accepted). Among x
         let one : List·Memᴰ (taken f o) (map acceptedOf (waitingOf f ++ new)) = mem-image acceptedOf (mem-right (waitingOf f) (List·Memᴰ·head refl)) in
         let two : List·Memᴰ (taken f o) (map acceptedOf (queueOf f o)) = perm-mem (Permᴰ·map acceptedOf (by-deadline-perm (waitingOf f ++ new))) one in
         let three : Among (taken f o) (withPlan f (planned f o)) =
-        subst (λ (l : List Job). List·Memᴰ (taken f o) (map acceptedOf l)) (sym (waiting-planned f o z (k .granted) (k .books)))
+        subst (λ (l : List Job). List·Memᴰ (taken f o) (map acceptedOf l)) (sym (queue-waits f (f .used + 1) (planned f o)))
         (subst (List·Memᴰ (taken f o)) (sym (plan-accepted (termsOf f) (busyOf f) (queueOf f o))) two) in
         subst (All (λ (x : Accepted). Among x (handed f (offer o)))) (sym (k .jobs)) (subst (Among (taken f o)) (sym (k .hands)) three, tt)
 

@@ -19,7 +19,7 @@ use Rattle.walk.specs.declared.Busy.{Busy}
 use Rattle.walk.specs.declared.Chunk.{Chunk}
 use Rattle.planner.specs.declared.Farm.{Farm}
 use Rattle.answers.specs.declared.Offer.{Offer}
-use Rattle.planner.specs.Model.{greatest, between, costsWithin, finishOf, Span, linesOf, spansOf, spansOfAll, Sized, afters, waitingOf, busyOf, termsOf, busyAfter, plan, Between}
+use Rattle.planner.specs.Model.{greatest, mostHeld, between, costsWithin, finishOf, Span, linesOf, spansOf, spansOfAll, Sized, afters, waitingOf, busyOf, termsOf, busyAfter, plan, Between}
 use Rattle.planner.specs.Passes.{passesOf}
 use Rattle.walk.specs.Chain.{Chain, chain-append, Proper, job-finish, afters-length}
 use Rattle.walk.specs.Order.{by-deadline-perm}
@@ -27,7 +27,8 @@ use Rattle.soundness.specs.Sweep.{spans-all}
 use Rattle.soundness.specs.Sound.{Paired}
 use Rattle.demands.specs.QuestionEleven.{passes-iff}
 use Rattle.planner.specs.Calls.{ofNumber, without, openedWith, showsWithin, openFarm, heldBy, newJob, queueOf, planned, withPlan, withdrawnFarm}
-use Rattle.demands.specs.OfferPasses.{all-replicate, opens-with, open-sized, open-passes, waiting-planned, accepted-sized, accepted-passes}
+use Rattle.planner.specs.Changes.{queue-waits}
+use Rattle.demands.specs.OfferPasses.{all-replicate, opens-with, open-sized, open-passes, accepted-sized, accepted-passes}
 use Rattle.planner.specs.Clock.{holds, linesOfAll, begun, left, issued, movedFarm}
 use Rattle.demands.specs.CallLists.{Call, offer, quote, withdraw, move, Accepted, History, withStart, chunkOf, opening, note, run, heldOf, upTo, acceptedOf}
 use Rattle.timetable.specs.BeginSteps.{afters-append}
@@ -179,7 +180,7 @@ module _ (w : History) (o : Offer) where
   takes-inv : Inv w → Takes (w .farm) o → Inv offered
   takes-inv i k =
       let f = w .farm in
-      let now : waitingOf (withPlan f (planned f o)) ≡ planned f o = waiting-planned f o (i .sized) (k .granted) (k .books) in
+      let now : waitingOf (withPlan f (planned f o)) ≡ planned f o = queue-waits f (f .used + 1) (planned f o) in
       let size = accepted-sized f o (i .sized) (k .granted) (k .books) in
       record {
         past = i .past;
@@ -294,7 +295,7 @@ held-within-free c n js h k =
     omega arith
 
 -- and a show's are at most 64 times the time range.
-held-limit : (c : FarmCosts) (n s : ℕ) (js : List Job) → All (Whole c n) js → Chain idle (spansOfAll c js) → heldOf s (linesOfAll c js) ≤ 64_000_000_000_000
+held-limit : (c : FarmCosts) (n s : ℕ) (js : List Job) → All (Whole c n) js → Chain idle (spansOfAll c js) → heldOf s (linesOfAll c js) ≤ mostHeld
 held-limit c n s js h k =
     omega (
       arith,
@@ -356,12 +357,12 @@ module _ (w : History) (t : ℕ) (m : List Chunk) where
     moved-held s h =
         omega (arith, raised-held s (w .farm .held) (issued (w .farm) t) (h .0) begun-shows, i .held s h, held-append s (w .lines) (issued (w .farm) t))
 
-    held-within : All (λ (x : ℕ). x ≤ 64_000_000_000_000) (movedFarm (w .farm) t .held)
+    held-within : All (λ (x : ℕ). x ≤ mostHeld) (movedFarm (w .farm) t .held)
     held-within =
         let size = moved-sized (w .farm) (i .sized) (i .passes) t .held in
-        all-by (λ (x : ℕ). x ≤ 64_000_000_000_000) (movedFarm (w .farm) t .held) (λ n l. one n (omega arith))
+        all-by (λ (x : ℕ). x ≤ mostHeld) (movedFarm (w .farm) t .held) (λ n l. one n (omega arith))
       where
-        one : (n : ℕ) → n < 32 → getD (movedFarm (w .farm) t .held) n 0 ≤ 64_000_000_000_000
+        one : (n : ℕ) → n < 32 → getD (movedFarm (w .farm) t .held) n 0 ≤ mostHeld
         one n l =
             let p : n ≡ suc n - 1 = omega arith in
             let h : getD (movedFarm (w .farm) t .held) n 0 ≡ heldOf (suc n) (linesOfAll (w .farm .costs) (i .past ++ begun (w .farm) t)) =
@@ -399,7 +400,7 @@ module _ (w : History) (t : ℕ) (m : List Chunk) where
           gone = i .gone;
           sized = size;
           passes = passes-iff (movedFarm f t) size .1
-              (moved-passes f (i .sized) (i .passes) t (k .granted .time .1) (all-take (λ (x : ℕ). x ≤ 64_000_000_000_000) (f .shows) (movedFarm f t .held) held-within) (busy-within .0)
+              (moved-passes f (i .sized) (i .passes) t (k .granted .time .1) (all-take (λ (x : ℕ). x ≤ mostHeld) (f .shows) (movedFarm f t .held) held-within) (busy-within .0)
               (all-take (λ (x : ℕ). x ≤ greatest) (f .nodes) (movedFarm f t .free) (busy-within .1)));
           whole = moved-whole;
           lines = moved-lines;

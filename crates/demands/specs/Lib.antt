@@ -3,6 +3,7 @@
 pub mod CallLists
 pub mod QuestionEleven
 pub mod Offers
+pub mod WalkPasses
 pub mod OfferPasses
 pub mod BegunJobs
 pub mod HeldTicks

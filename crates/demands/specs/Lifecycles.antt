@@ -26,7 +26,7 @@ use Rattle.walk.specs.Order.{by-deadline-perm}
 use Rattle.walk.specs.Plan.{plan-numbers}
 use Rattle.soundness.specs.Sweep.{spans-all}
 use Rattle.planner.specs.Calls.{hasNumber, ofNumber, without, newJob, queueOf, planned, withPlan, withdrawnFarm}
-use Rattle.demands.specs.OfferPasses.{waiting-planned}
+use Rattle.planner.specs.Changes.{queue-waits}
 use Rattle.planner.specs.Clock.{startsBy, startsAfter, linesOfAll, begun, left, issued, movedFarm}
 use Rattle.demands.specs.CallLists.{Call, offer, quote, withdraw, move, handed, linesBy, Accepted, History, note, linesFor, unitsIn, acceptedOf, Fulfils, Waits, NoneOf, IssuesNone, Lifecycle, waits, passes, begins, withdrawn}
 use Rattle.lists.specs.Keep.{keep-all}
@@ -192,7 +192,7 @@ module _ (n : ℕ) (f : Farm) (z : Sized f) (e : passesOf f ≡ true) where
       image-all P numberOfJob (planned f o) (subst (All P) (sym (plan-numbers (termsOf f) (busyOf f) (queueOf f o))) (all-image P numberOfJob (queueOf f o) queue)) in
       record {
         used = omega (arith, g .used);
-        none = subst (All (λ (j : Job). j .number ≡ n → ⊥)) (sym (waiting-planned f o z (k .granted) (k .books))) all;
+        none = subst (All (λ (j : Job). j .number ≡ n → ⊥)) (sym (queue-waits f (f .used + 1) (planned f o))) all;
       }
 
   no-longer-leaves : (k : ℕ) → NoLongerWaits n f → Leaves f k → NoLongerWaits n (withdrawnFarm f k)
@@ -255,7 +255,7 @@ among-takes x f o z k m =
     let new = newJob f o ∷ [] in
     let one : List·Memᴰ x (map acceptedOf (ws ++ new)) = subst (List·Memᴰ x) (sym (map-join acceptedOf ws new)) (mem-left (map acceptedOf new) m) in
     let two : List·Memᴰ x (map acceptedOf (queueOf f o)) = perm-mem (Permᴰ·map acceptedOf (by-deadline-perm (ws ++ new))) one in
-    subst (λ (l : List Job). List·Memᴰ x (map acceptedOf l)) (sym (waiting-planned f o z (k .granted) (k .books)))
+    subst (λ (l : List Job). List·Memᴰ x (map acceptedOf l)) (sym (queue-waits f (f .used + 1) (planned f o)))
     (subst (List·Memᴰ x) (sym (plan-accepted (termsOf f) (busyOf f) (queueOf f o))) two)
 
 among-offer : (x : Accepted) (f : Farm) (o : Offer) → Sized f → Among x f → Among x (handed f (offer o))

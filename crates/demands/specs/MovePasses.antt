@@ -1,18 +1,18 @@
 -- The farm that a granted clock move hands back: it passes question 11 where its figures stay within their limits.
-use mathlib.Core.Path.{_≡_, refl, ap, sym, subst, _∙_}
+use mathlib.Core.Path.{_≡_, ap, sym, subst, _∙_}
 use mathlib.Core.List.{List, [], _∷_, _++_, map, Permᴰ·map}
 use mathlib.Core.Bool.{true, _&&_}
 use Prim.Native.Nat.{ℕ, _*_, _≤_}
 use native.Mathlib.Omega.{arith}
 use borrow.Author.Tests.{leb-false, not-true}
-use lib.ListN.{length, take, drop, length-append, length-drop, take-append-drop}
-use lib.Seq.{take-at, length-take-le}
-use Rattle.lists.specs.Laws.{All, Pairs, Differ, all-map, all-both, all-append, all-join, all-take, perm-all, perm-pairs, map-join, pairs-parts}
+use lib.ListN.{length, take, length-append}
+use lib.Seq.{length-take-le}
+use Rattle.lists.specs.Laws.{All, Pairs, Differ, all-map, all-both, all-take, perm-all, perm-pairs, map-join, pairs-parts}
 use Rattle.booking.specs.Best.{chosen, units}
 use Rattle.walk.specs.declared.Job.{Job}
 use Rattle.walk.specs.declared.Chunk.{Chunk}
 use Rattle.planner.specs.declared.Farm.{Farm}
-use Rattle.planner.specs.Model.{greatest, linesOf, spansOf, spansOfAll, JobSized, Sized, afters, fitAll, byStart, waitingOf, busyOf, Apart}
+use Rattle.planner.specs.Model.{greatest, mostHeld, linesOf, spansOf, spansOfAll, JobSized, Sized, afters, fitAll, byStart, waitingOf, busyOf, Apart}
 use Rattle.soundness.specs.Model.{jobsPass, allDiffer}
 use Rattle.planner.specs.Passes.{figuresOf, numbersOf, waitingPass, passesOf, JobWithin, JobSound, Passes}
 use Rattle.planner.specs.PassesSteps.{farmWithin, usable}
@@ -23,7 +23,8 @@ use Rattle.soundness.specs.Sound.{Paired, job-paired, fits-behind, job-spans}
 use Rattle.demands.specs.QuestionEleven.{passes-iff}
 use Rattle.timetable.specs.LinesSteps.{lines-length}
 use Rattle.limits.specs.Tests.{and-both}
-use Rattle.planner.specs.Clock.{startsBy, startsAfter, begun, left, linesOfAll, issued, movedFarm}
+use Rattle.planner.specs.Changes.{atTime, jobs-within, time-within, queue-sized, time-sized, queue-waits}
+use Rattle.planner.specs.Clock.{raised, startsBy, startsAfter, begun, left, linesOfAll, issued, movedFarm}
 use Rattle.lists.specs.Keep.{keep-all, keep-length}
 use Rattle.timetable.specs.HeldSteps.{raised-length}
 use Rattle.demands.specs.BegunJobs.{later, begun-later, later-left, begun-left, spans-append, spans-chunks}
@@ -87,21 +88,21 @@ module _ (f : Farm) (sized : Sized f) (e : passesOf f ≡ true) where
 
     -- The waiting jobs after a move are those that it left.
     pub moved-waiting : waitingOf (movedFarm f t) ≡ left f t
-    moved-waiting = take-at (left f t) (drop (length (left f t)) (f .jobs)) (length (left f t)) refl
+    moved-waiting = queue-waits f (f .used) (left f t)
+
+    -- the farm at the time of the move, what begins taken into its free times and held ticks
+    abbrev timed : Farm
+    timed = atTime f t (afters (busyOf f) (issued f t)) (raised (f .held) (issued f t))
+
+    few : length (left f t) ≤ 128
+    few = omega (arith, left-few, passes-iff f sized .0 e .within .waiting)
 
     -- A move hands back a farm with its arrays.
     pub moved-sized : Sized (movedFarm f t)
     moved-sized =
-        let w = passes-iff f sized .0 e .within .waiting in
-        let n = length (left f t) in
-        let rest : All JobSized (drop n (f .jobs)) = all-append JobSized (take n (f .jobs)) (drop n (f .jobs)) (rw take-append-drop (sized .each)) .1 in
-        record {
-          allowances = sized .allowances;
-          held = raised-length (f .held) (issued f t) ∙ sized .held;
-          free = afters-length (busyOf f) (issued f t) ∙ sized .free;
-          jobs = omega (arith, left-few, length-append (left f t) (drop n (f .jobs)), length-drop n (f .jobs), sized .jobs);
-          each = all-join JobSized (left f t) (drop n (f .jobs)) (perm-all JobSized (later-left f t) (all-map (λ j h. h .0 .sized) (later f t) later-jobs)) rest;
-        }
+        queue-sized timed (f .used) (left f t)
+        (time-sized f t (afters (busyOf f) (issued f t)) (raised (f .held) (issued f t)) sized (afters-length (busyOf f) (issued f t) ∙ sized .free) (raised-length (f .held) (issued f t) ∙ sized .held))
+        few (perm-all JobSized (later-left f t) (all-map (λ j h. h .0 .sized) (later f t) later-jobs))
 
     later-proper : All (Proper 64) (spansOfAll (f .costs) (later f t))
     later-proper = spans-all (Proper 64) (f .costs) (later f t) (all-map (λ j h. h .0 .proper) (later f t) later-jobs)
@@ -123,7 +124,7 @@ module _ (f : Farm) (sized : Sized f) (e : passesOf f ≡ true) where
         }) (later f t) later-jobs fits
 
     -- A move hands back a farm that passes question 11, where its held ticks and free times are within their limits.
-    pub moved-passes : t ≤ greatest → All (λ (x : ℕ). x ≤ 64_000_000_000_000) (take (f .shows) (movedFarm f t .held)) → movedFarm f t .link ≤ greatest
+    pub moved-passes : t ≤ greatest → All (λ (x : ℕ). x ≤ mostHeld) (take (f .shows) (movedFarm f t .held)) → movedFarm f t .link ≤ greatest
         → All (λ (x : ℕ). x ≤ greatest) (take (f .nodes) (movedFarm f t .free)) → Passes (movedFarm f t)
     moved-passes by held link free =
         let old = passes-iff f sized .0 e in
@@ -132,18 +133,7 @@ module _ (f : Farm) (sized : Sized f) (e : passesOf f ≡ true) where
         let d = later-left f t in
         record {
           opened = old .opened;
-          within = record {
-            nodes = w .nodes;
-            costs = w .costs;
-            shows = w .shows;
-            allowances = w .allowances;
-            held = held;
-            clock = by;
-            link = link;
-            free = free;
-            used = w .used;
-            waiting = omega (arith, left-few, w .waiting);
-          };
+          within = jobs-within timed (f .used) (length (left f t)) (farm .jobs) (time-within f t (afters (busyOf f) (issued f t)) (raised (f .held) (issued f t)) w by link free held) (w .used) few;
           jobs = subst (All (JobWithin (figuresOf farm))) (sym moved-waiting) (perm-all (JobWithin (figuresOf farm)) d
               (all-map (λ j h. let x = h .0 .within in record { number = x .number; show = x .show; size = x .size; compute = x .compute; deadline = x .deadline; start = x .start; count = x .count; nodes = x .nodes }) (later f t) later-jobs));
           sound = record {

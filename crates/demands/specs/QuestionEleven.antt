@@ -14,7 +14,7 @@ use Rattle.planner.specs.declared.Farm.{Farm}
 use Rattle.planner.specs.Model.{spansOfAll, waitingOf, busyOf, JobSized, Sized, Apart}
 use Rattle.planner.specs.Passes.{countsWithin, timesWithin, figuresOf, passesOf, JobWithin, JobSound, Within, Passes}
 use Rattle.planner.specs.PassesSteps.{farmWithin, usable, says-within}
-use Rattle.planner.specs.Calls.{withWaiting}
+use Rattle.planner.specs.Changes.{withJobs, jobs-within}
 use Rattle.demands.specs.BegunJobs.{spans-append}
 
 -- The test of the farm itself says that it is opened and that its figures are within their limits.
@@ -34,26 +34,14 @@ passes-iff f z = let s = says-passes f z in (s .yields, s .follows)
 -- ---- Fewer jobs, in any order
 
 -- A farm that passes also passes where some of its waiting jobs are gone, and the others stand in any order.
-pub fewer-pass : (f : Farm) (n : ℕ) (gone js : List Job) → n ≤ 128 → List·Permᴰ (waitingOf f) (gone ++ take n js) → Passes f → Passes (withWaiting f n js)
+pub fewer-pass : (f : Farm) (n : ℕ) (gone js : List Job) → n ≤ 128 → List·Permᴰ (waitingOf f) (gone ++ take n js) → Passes f → Passes (withJobs f (f .used) n js)
 fewer-pass f n gone js few d p =
-    let w = p .within in
     let c = f .costs in
     let rest = take n js in
     let numbers : List Job → List ℕ = map (λ (j : Job). j .number) in
     record {
       opened = p .opened;
-      within = record {
-        nodes = w .nodes;
-        costs = w .costs;
-        shows = w .shows;
-        allowances = w .allowances;
-        held = w .held;
-        clock = w .clock;
-        link = w .link;
-        free = w .free;
-        used = w .used;
-        waiting = few;
-      };
+      within = jobs-within f (f .used) n js (p .within) (p .within .used) few;
       jobs = all-append (JobWithin (figuresOf f)) gone rest (perm-all (JobWithin (figuresOf f)) d (p .jobs)) .1;
       sound = record {
         jobs = all-append (JobSound (figuresOf f) (busyOf f)) gone rest (perm-all (JobSound (figuresOf f) (busyOf f)) d (p .sound .jobs)) .1;
@@ -64,7 +52,7 @@ fewer-pass f n gone js few d p =
     }
 
 -- A farm that passes also passes with its waiting jobs in any other order.
-pub any-order : (f g : Farm) → withWaiting f (f .waiting) (g .jobs) ≡ g → List·Permᴰ (waitingOf f) (waitingOf g) → Passes f → Passes g
+pub any-order : (f g : Farm) → withJobs f (f .used) (f .waiting) (g .jobs) ≡ g → List·Permᴰ (waitingOf f) (waitingOf g) → Passes f → Passes g
 any-order f g e d p =
     let n : g .waiting ≡ f .waiting = ap (λ (h : Farm). h .waiting) (sym e) in
     subst Passes e (fewer-pass f (f .waiting) [] (g .jobs) (p .within .waiting) (subst (λ (k : ℕ). List·Permᴰ (waitingOf f) (take k (g .jobs))) n d) p)

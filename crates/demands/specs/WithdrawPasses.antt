@@ -2,16 +2,17 @@
 use mathlib.Core.Path.{_≡_, refl, sym, subst, _∙_}
 use mathlib.Core.List.{List, [], _∷_, map, List·Permᴰ, Permᴰ·map}
 use mathlib.Core.Bool.{Bool, true, false, cond, _&&_}
-use Prim.Native.Nat.{ℕ, suc, _-_}
+use Prim.Native.Nat.{ℕ, suc, _≤_}
 use native.Mathlib.Omega.{arith}
-use lib.ListN.{length, take, drop, length-append, length-drop, take-append-drop}
-use lib.Seq.{take-at, length-take-le}
-use Rattle.lists.specs.Laws.{All, Differ, all-map, all-append, all-join, all-take, image-all, perm-all, perm-length, perm-pairs}
+use lib.ListN.{length}
+use lib.Seq.{length-take-le}
+use Rattle.lists.specs.Laws.{All, Differ, all-map, all-take, image-all, perm-all, perm-length, perm-pairs}
 use Rattle.queue.specs.Numbers.{numberOfJob, of-number-has, without-perm}
 use Rattle.walk.specs.declared.Job.{Job}
 use Rattle.planner.specs.declared.Farm.{Farm}
 use Rattle.planner.specs.Model.{JobSized, Sized, waitingOf}
 use Rattle.planner.specs.Passes.{passesOf, Passes}
+use Rattle.planner.specs.Changes.{queue-sized, queue-waits}
 use Rattle.planner.specs.Calls.{hasNumber, ofNumber, without, withdrawnFarm, withdrawFarm}
 use Rattle.demands.specs.QuestionEleven.{passes-iff, fewer-pass}
 use Rattle.demands.specs.MovePasses.{waiting-differ}
@@ -28,7 +29,7 @@ module _ (f : Farm) (n : ℕ) (sized : Sized f) (e : passesOf f ≡ true) (h : h
 
   -- The waiting jobs after it are the others.
   pub withdrawn-waiting : waitingOf (withdrawnFarm f n) ≡ without n (waitingOf f)
-  withdrawn-waiting = take-at (without n (waitingOf f)) (drop (f .waiting - 1) (f .jobs)) (f .waiting - 1) (omega (arith, others-count))
+  withdrawn-waiting = queue-waits f (f .used) (without n (waitingOf f))
 
   -- None of them has the number.
   pub others-differ : All (λ (j : Job). j .number ≡ n → ⊥) (without n (waitingOf f))
@@ -38,26 +39,18 @@ module _ (f : Farm) (n : ℕ) (sized : Sized f) (e : passesOf f ≡ true) (h : h
       all-map (λ j k q. k (of-number-has n (waitingOf f) h ∙ sym q)) (without n (waitingOf f))
       (image-all (λ (b : ℕ). ofNumber n (waitingOf f) .number ≡ b → ⊥) numberOfJob (without n (waitingOf f)) (d .0))
 
+  few : length (without n (waitingOf f)) ≤ 128
+  few = omega (arith, others-count, passes-iff f sized .0 e .within .waiting)
+
   -- It hands back a farm with its arrays.
   pub withdrawn-sized : Sized (withdrawnFarm f n)
-  withdrawn-sized =
-      let w = passes-iff f sized .0 e .within .waiting in
-      let k = f .waiting - 1 in
-      let rest : All JobSized (drop k (f .jobs)) = all-append JobSized (take k (f .jobs)) (drop k (f .jobs)) (rw take-append-drop (sized .each)) .1 in
-      let others : All JobSized (without n (waitingOf f)) = perm-all JobSized leaves-others (all-take JobSized (f .waiting) (f .jobs) (sized .each)) .1 in
-      record {
-        allowances = sized .allowances;
-        held = sized .held;
-        free = sized .free;
-        jobs = omega (arith, others-count, length-append (without n (waitingOf f)) (drop k (f .jobs)), length-drop k (f .jobs), sized .jobs);
-        each = all-join JobSized (without n (waitingOf f)) (drop k (f .jobs)) others rest;
-      }
+  withdrawn-sized = queue-sized f (f .used) (without n (waitingOf f)) sized few (perm-all JobSized leaves-others (all-take JobSized (f .waiting) (f .jobs) (sized .each)) .1)
 
   -- It hands back a farm that passes question 11.
   pub withdrawn-passes : Passes (withdrawnFarm f n)
   withdrawn-passes =
       let p = passes-iff f sized .0 e in
-      fewer-pass f (f .waiting - 1) (ofNumber n (waitingOf f) ∷ []) (withdrawnFarm f n .jobs) (omega (arith, p .within .waiting))
+      fewer-pass f (length (without n (waitingOf f))) (ofNumber n (waitingOf f) ∷ []) (withdrawnFarm f n .jobs) few
       (subst (λ (l : List Job). List·Permᴰ (waitingOf f) (ofNumber n (waitingOf f) ∷ l)) (sym withdrawn-waiting) leaves-others) p
 
 -- A withdrawal from a farm that passes question 11 hands back a farm that passes it.
