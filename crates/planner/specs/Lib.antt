@@ -1,4 +1,4 @@
--- What a reader must believe is Model, Passes, Calls and Clock; the others are what the functions need and promise each other.
+-- What a reader must believe is Model, Passes, Calls, Clock and Call; the others are what the functions need and promise each other.
 pub mod Model
 pub mod Passes
 pub mod PassesSteps
@@ -8,3 +8,5 @@ pub mod OfferSteps
 pub mod WithdrawSteps
 pub mod Clock
 pub mod ClockSteps
+pub mod Call
+pub mod CallLaws
