@@ -106,7 +106,7 @@ row-allowances : (k : Kind) (ns : List ℕ) → allowancesIn (rowWith k ns) ≡ 
 row-allowances k ns =
     sym (drop-take 6 (min 39 (length ns)) (padded 39 ns)) ∙ ap (drop 6) (kept-front 39 ns) ∙ drop-take 6 39 ns
 
-farm-same : (k : Kind) (ns : List ℕ) → openingWith (padded 39 ns) (allowancesIn (rowWith k ns)) ≡ opened ns (allowancesOf ns)
+farm-same : (k : Kind) (ns : List ℕ) → openingWith (padded 39 ns) (allowancesIn (rowWith k ns)) ≡ openingWith ns (allowancesOf ns)
 farm-same k ns =
     rw (row-allowances k ns, kept-at 39 ns 0 (omega arith), kept-at 39 ns 1 (omega arith), kept-at 39 ns 2 (omega arith), kept-at 39 ns 3 (omega arith), kept-at 39 ns 4 (omega arith), kept-at 39 ns 5 (omega arith), open-33, open-farm-33)
 
