@@ -2,7 +2,6 @@
 use mathlib.Core.Path.{_≡_, refl, ap, sym, subst, _∙_}
 use mathlib.Core.List.{List, [], _∷_, _++_, map, append-nil, append-assoc, List·Memᴰ, List·Permᴰ, List·Permᴰ·nil, List·Permᴰ·cons, List·Permᴰ·trans, List·Permᴰ·append-comm, Permᴰ·map, Permᴰ·append-left, Permᴰ·append-right, Permᴰ·middle}
 use mathlib.Core.Bool.{true, _&&_}
-use mathlib.Core.Logic.{⊎-elim}
 use Prim.Native.Nat.{ℕ, suc, _+_, _-_, _≤_, _<_}
 use native.Mathlib.Omega.{arith}
 use native.Mathlib.Numerals.{add-one}
@@ -29,13 +28,13 @@ use Rattle.demands.specs.QuestionEleven.{passes-iff}
 use Rattle.planner.specs.Calls.{ofNumber, without, openedWith, showsWithin, openFarm, heldBy, newJob, queueOf, planned, withPlan, withdrawnFarm}
 use Rattle.demands.specs.OfferPasses.{all-replicate, opens-with, open-sized, open-passes, waiting-planned, accepted-sized, accepted-passes}
 use Rattle.planner.specs.Clock.{holds, linesOfAll, begun, left, issued, movedFarm}
-use Rattle.demands.specs.CallLists.{Call, offer, quote, withdraw, move, Accepted, History, withStart, chunkOf, opening, note, run, heldOf, upTo, acceptedOf}
+use Rattle.demands.specs.CallLists.{Call, Accepted, Noted, nothing, accepting, withdrawing, moving, handed, noted, History, chunkOf, opening, noting, note, run, heldOf, upTo, acceptedOf}
 use Rattle.timetable.specs.BeginSteps.{afters-append}
 use Rattle.demands.specs.BegunJobs.{begun-left, lines-joined, lines-all, spans-append, spans-chunks}
 use Rattle.demands.specs.HeldTicks.{afters-within, sum-within, held-part, held-append, held-free, raised-held}
 use Rattle.demands.specs.WithdrawPasses.{leaves-others, withdrawn-waiting, withdrawn-sized, withdrawn-passes}
 use Rattle.demands.specs.MovePasses.{Waiting, moved-chain, begun-jobs, moved-waiting, moved-sized, moved-passes}
-use Rattle.demands.specs.Outcome.{Refused, taken, Takes, Leaves, Moves, outcome, job-named}
+use Rattle.demands.specs.Outcome.{taken, Takes, Leaves, Outcome, stays, takes, leaves, moves, outcome, started-issued, job-named}
 
 -- ---- The invariant
 
@@ -127,18 +126,15 @@ same-world : {f g : Farm} {k l : List Chunk} {r s : List Span} {i j : List Accep
     → historyOf f k r i m p t ≡ historyOf g l s j n q u
 same-world a b y c d e x = rw (a, b, y, c, d, e, x)
 
--- ---- A refused call
+-- ---- What is noted
 
--- A refused call changes nothing.
-pub refused-note : (w : History) (c : Call) → Refused (w .farm) c → note w c ≡ w
-refused-note w c r =
-    same-world (r .hands) (ap (λ (l : List Chunk). w .lines ++ l) (r .lines) ∙ append-nil (w .lines))
-    (ap (λ (l : List Chunk). w .spans ++ map (withStart (w .farm)) l) (r .lines) ∙ append-nil (w .spans)) (ap (λ (l : List Accepted). w .jobs ++ l) (r .jobs) ∙ append-nil (w .jobs))
-    (ap (λ (l : List ℕ). w .gone ++ l) (r .gone) ∙ append-nil (w .gone)) (r .latest (w .latest)) (r .time (w .time))
+-- A call notes what it is known to hand back and to note.
+noting-as : (w : History) (c : Call) {g : Farm} {n : Noted} → handed (w .farm) c ≡ g → noted (w .farm) c ≡ n → note w c ≡ noting w g n
+noting-as w c h q = rw (h, q)
 
--- So it is of a quote, given or refused.
-pub quote-note : (w : History) (o : Offer) → note w (quote o) ≡ w
-quote-note w o = same-world refl (append-nil (w .lines)) (append-nil (w .spans)) (append-nil (w .jobs)) (append-nil (w .gone)) refl refl
+-- A call that is refused or only tells changes nothing.
+pub stays-note : (w : History) (c : Call) → handed (w .farm) c ≡ w .farm → noted (w .farm) c ≡ nothing → note w c ≡ w
+stays-note w c h q = noting-as w c h q ∙ same-world refl (append-nil (w .lines)) (append-nil (w .spans)) (append-nil (w .jobs)) (append-nil (w .gone)) refl refl
 
 -- ---- An accepted offer
 
@@ -152,8 +148,8 @@ module _ (w : History) (o : Offer) where
   abbrev offered : History
   offered = historyOf (withPlan (w .farm) (planned (w .farm) o)) (w .lines) (w .spans) (w .jobs ++ taken (w .farm) o ∷ []) (w .gone) (planned (w .farm) o) (w .time)
 
-  takes-note : Takes (w .farm) o → note w (offer o) ≡ offered
-  takes-note k = same-world (k .hands) (append-nil (w .lines)) (append-nil (w .spans)) (ap (λ (l : List Accepted). w .jobs ++ l) (k .jobs)) (append-nil (w .gone)) (k .latest (w .latest)) refl
+  takes-note : noting w (withPlan (w .farm) (planned (w .farm) o)) (accepting (taken (w .farm) o) (planned (w .farm) o)) ≡ offered
+  takes-note = same-world refl (append-nil (w .lines)) (append-nil (w .spans)) refl (append-nil (w .gone)) refl refl
 
   taken-jobs : (gone : List Accepted) (past : List Job) → List·Permᴰ (w .jobs) (gone ++ map acceptedOf (past ++ waitingOf (w .farm)))
       → List·Permᴰ (w .jobs ++ taken (w .farm) o ∷ []) (gone ++ map acceptedOf (past ++ planned (w .farm) o))
@@ -205,8 +201,8 @@ module _ (w : History) (n : ℕ) where
   abbrev departed : History
   departed = historyOf (withdrawnFarm (w .farm) n) (w .lines) (w .spans) (w .jobs) (w .gone ++ n ∷ []) (w .latest) (w .time)
 
-  leaves-note : Leaves (w .farm) n → note w (withdraw n) ≡ departed
-  leaves-note k = same-world (k .hands) (append-nil (w .lines)) (append-nil (w .spans)) (append-nil (w .jobs)) (ap (λ (l : List ℕ). w .gone ++ l) (k .gone)) refl refl
+  leaves-note : noting w (withdrawnFarm (w .farm) n) (withdrawing n) ≡ departed
+  leaves-note = same-world refl (append-nil (w .lines)) (append-nil (w .spans)) (append-nil (w .jobs)) refl refl refl
 
   module _ (i : Inv w) (k : Leaves (w .farm) n) where
     abbrev leaver : Job
@@ -315,14 +311,14 @@ issued-within-free w i =
 
 -- ---- A granted clock move
 
-module _ (w : History) (t : ℕ) (m : List Chunk) where
+module _ (w : History) (t : ℕ) where
   abbrev moved : History
   moved = historyOf (movedFarm (w .farm) t) (w .lines ++ issued (w .farm) t) (w .spans ++ spansOfAll (w .farm .costs) (begun (w .farm) t)) (w .jobs) (w .gone) (w .latest) t
 
-  moves-note : Moves (w .farm) t m → note w (move t m) ≡ moved
-  moves-note k = same-world (k .hands) (ap (λ (l : List Chunk). w .lines ++ l) (k .lines)) (ap (λ (l : List Span). w .spans ++ l) (k .spans)) (append-nil (w .jobs)) (append-nil (w .gone)) refl (k .time (w .time))
+  module _ (i : Inv w) where
+    moves-note : noting w (movedFarm (w .farm) t) (moving t (issued (w .farm) t)) ≡ moved
+    moves-note = same-world refl refl (ap (λ (l : List Span). w .spans ++ l) (started-issued (w .farm) t (i .sized) (i .passes))) (append-nil (w .jobs)) (append-nil (w .gone)) refl refl
 
-  module _ (i : Inv w) (k : Moves (w .farm) t m) where
     moved-whole : All (Whole (w .farm .costs) (w .farm .shows)) (i .past ++ begun (w .farm) t)
     moved-whole =
         all-join (Whole (w .farm .costs) (w .farm .shows)) (i .past) (begun (w .farm) t) (i .whole)
@@ -389,8 +385,8 @@ module _ (w : History) (t : ℕ) (m : List Chunk) where
         all-append P (begun f t) (left f t) (perm-all P (begun-left f t) (i .latest)) .1
 
     -- A granted clock move keeps the invariant.
-    moves-inv : Inv moved
-    moves-inv =
+    moves-inv : t ≤ greatest → Inv moved
+    moves-inv limit =
         let f = w .farm in
         let after : waitingOf (movedFarm f t) ≡ left f t = moved-waiting f (i .sized) (i .passes) t in
         let size = moved-sized f (i .sized) (i .passes) t in
@@ -399,7 +395,7 @@ module _ (w : History) (t : ℕ) (m : List Chunk) where
           gone = i .gone;
           sized = size;
           passes = passes-iff (movedFarm f t) size .1
-              (moved-passes f (i .sized) (i .passes) t (k .granted .time .1) (all-take (λ (x : ℕ). x ≤ 64_000_000_000_000) (f .shows) (movedFarm f t .held) held-within) (busy-within .0)
+              (moved-passes f (i .sized) (i .passes) t limit (all-take (λ (x : ℕ). x ≤ 64_000_000_000_000) (f .shows) (movedFarm f t .held) held-within) (busy-within .0)
               (all-take (λ (x : ℕ). x ≤ greatest) (f .nodes) (movedFarm f t .free) (busy-within .1)));
           whole = moved-whole;
           lines = moved-lines;
@@ -418,10 +414,13 @@ module _ (w : History) (t : ℕ) (m : List Chunk) where
 
 -- A call keeps the invariant.
 pub note-inv : (w : History) (c : Call) → Inv w → Inv (note w c)
-note-inv w (offer o) i = ⊎-elim (λ r. subst Inv (sym (refused-note w (offer o) r)) i) (λ k. subst Inv (sym (takes-note w o k)) (takes-inv w o i k)) (outcome (w .farm) (offer o) (i .sized))
-note-inv w (quote o) i = subst Inv (sym (quote-note w o)) i
-note-inv w (withdraw n) i = ⊎-elim (λ r. subst Inv (sym (refused-note w (withdraw n) r)) i) (λ k. subst Inv (sym (leaves-note w n k)) (leaves-inv w n i k)) (outcome (w .farm) (withdraw n) (i .sized))
-note-inv w (move t m) i = ⊎-elim (λ r. subst Inv (sym (refused-note w (move t m) r)) i) (λ k. subst Inv (sym (moves-note w t m k)) (moves-inv w t m i k)) (outcome (w .farm) (move t m) (i .sized))
+note-inv w c i = go (outcome (w .farm) c)
+  where
+    go : Outcome (w .farm) c → Inv (note w c)
+    go (stays h q) = subst Inv (sym (stays-note w c h q)) i
+    go (takes o e k h q) = subst Inv (sym (noting-as w c h q ∙ takes-note w o)) (takes-inv w o i k)
+    go (leaves n k h q) = subst Inv (sym (noting-as w c h q ∙ leaves-note w n)) (leaves-inv w n i k)
+    go (moves t n k h q) = subst Inv (sym (noting-as w c h q ∙ moves-note w t i)) (moves-inv w t i (k .time .1))
 
 -- So does every list of calls.
 pub run-inv : (w : History) (cs : List Call) → Inv w → Inv (run w cs)

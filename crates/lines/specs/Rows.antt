@@ -14,8 +14,8 @@ use Rattle.walk.specs.Model.{noChunk}
 use Rattle.planner.specs.declared.Farm.{Farm}
 use Rattle.planner.specs.Calls.{openSaid, openFarm, showsWithin}
 use Rattle.planner.specs.Clock.{moveSaid, moveFarm, moveLines}
-use Rattle.planner.specs.Call.{Call, offer, quote, withdraw, move, account, does, reply}
-use Rattle.planner.specs.CallLaws.{no-lines, move-issues}
+use Rattle.planner.specs.Call.{Call, offer, quote, withdraw, move, account, Noted, does, reply}
+use Rattle.planner.specs.CallLaws.{none-noted, move-issues}
 use Rattle.text.specs.Model.{value, padded}
 use Rattle.reading.specs.declared.Row.{Row}
 use Rattle.reading.specs.declared.Kind.{Kind}
@@ -197,7 +197,7 @@ opening-text ns al = refl
 -- So does a call that issues no chunk.
 pub called-text : (f : Farm) (c : Call) → does f c .notes .lines ≡ [] → answeredText (called f c) ≡ answerText (reply f c)
 unfolding chunkTexts
-called-text f c e = ap (λ (xs : List Chunk). chunkTexts xs ++ answerText (reply f c)) (no-lines f c e)
+called-text f c e = ap (λ (xs : List Chunk). chunkTexts xs ++ answerText (reply f c)) (none-noted (λ (n : Noted). n .lines) f c e)
 
 -- A clock move that is lent the program's records hands back what a move lent as many does, and issues the lines that it writes.
 pub move-called : (f : Farm) (t : ℕ) → called f (move t (replicate lent noChunk)) ≡ record { farm = moveFarm f t lent; chunks = moveLines f t lent; said = moveSaid f t lent }

@@ -25,11 +25,11 @@ refused-notes f c e = ap (λ (b : Bool). cond b (does f c .notes) nothing) e
 pub granted-notes : (f : Farm) (c : Call) → isGranted f c ≡ true → noted f c ≡ does f c .notes
 granted-notes f c e = ap (λ (b : Bool). cond b (does f c .notes) nothing) e
 
--- A call that issues no chunk where it is granted issues none.
-pub no-lines : (f : Farm) (c : Call) → does f c .notes .lines ≡ [] → noted f c .lines ≡ []
-no-lines f c e = go (isGranted f c)
+-- Where a granted call would note nothing of some sort, nothing of it is noted.
+pub none-noted : {A : Type 0} (p : Noted → A) (f : Farm) (c : Call) → p (does f c .notes) ≡ p nothing → p (noted f c) ≡ p nothing
+none-noted p f c e = go (isGranted f c)
   where
-    go : (b : Bool) → cond b (does f c .notes) nothing .lines ≡ []
+    go : (b : Bool) → p (cond b (does f c .notes) nothing) ≡ p nothing
     go true = e
     go false = refl
 
