@@ -12,7 +12,7 @@ use Rattle.limits.specs.declared.FarmCosts.{FarmCosts}
 use Rattle.walk.specs.declared.Chunk.{Chunk}
 use Rattle.walk.specs.Model.{noChunk}
 use Rattle.planner.specs.declared.Farm.{Farm}
-use Rattle.planner.specs.Calls.{openSaid, openFarm, showsWithin}
+use Rattle.planner.specs.Calls.{Said, openSaid, openFarm, showsWithin}
 use Rattle.planner.specs.Clock.{moveSaid, moveFarm, moveLines}
 use Rattle.planner.specs.Call.{Call, offer, quote, withdraw, move, account, Noted, does, reply}
 use Rattle.planner.specs.CallLaws.{none-noted, move-issues}
@@ -185,19 +185,19 @@ module _ (f : Farm) (r : Row) where
 -- ---- What is printed
 
 -- A line that cannot be read, or not in its turn, prints `no 11`.
-pub unread-text : (f : Farm) → answeredText (unread f) ≡ refusal 11
+pub unread-text : (f : Farm) → refusal 11 ≡ answeredText (unread f)
 unfolding chunkTexts answerText
 unread-text f = refl
 
--- An opening prints its answer.
-pub opening-text : (ns al : List ℕ) → answeredText (openingWith ns al) ≡ answerText (openingWith ns al .said)
+-- An opening prints what it is told,
+pub opening-text : (ns al : List ℕ) {s : Said} → s ≡ openingWith ns al .said → answerText s ≡ answeredText (openingWith ns al)
 unfolding chunkTexts
-opening-text ns al = refl
+opening-text ns al e = ap answerText e
 
--- So does a call that issues no chunk.
-pub called-text : (f : Farm) (c : Call) → does f c .notes .lines ≡ [] → answeredText (called f c) ≡ answerText (reply f c)
+-- and so does a call that issues no chunk.
+pub call-text : (f : Farm) (c : Call) {s : Said} → does f c .notes .lines ≡ [] → s ≡ reply f c → answerText s ≡ answeredText (called f c)
 unfolding chunkTexts
-called-text f c e = ap (λ (xs : List Chunk). chunkTexts xs ++ answerText (reply f c)) (none-noted (λ (n : Noted). n .lines) f c e)
+call-text f c none e = ap answerText e ∙ sym (ap (λ (xs : List Chunk). chunkTexts xs ++ answerText (reply f c)) (none-noted (λ (n : Noted). n .lines) f c none))
 
 -- A clock move that is lent the program's records hands back what a move lent as many does, and issues the lines that it writes.
 pub move-called : (f : Farm) (t : ℕ) → called f (move t (replicate lent noChunk)) ≡ record { farm = moveFarm f t lent; chunks = moveLines f t lent; said = moveSaid f t lent }
