@@ -1,11 +1,10 @@
--- A list of offers, quotes, withdrawals and clock moves after a granted opening, each given the farm that the one before it handed back, and what is noted
--- of it. Everything here is a definition; nothing is assumed.
+-- A list of calls after a granted opening, each given the farm that the one before it handed back, and what is noted of it. What each call answers, hands
+-- back and notes is in the crate planner (Call). Everything here is a definition; nothing is assumed.
 use Prim.Native.Nat.{ℕ, zero, suc, _+_, _≤_, max}
 use mathlib.Core.Path.{_≡_}
 use mathlib.Core.List.{List, [], _∷_, _++_, map, List·Memᴰ}
 use mathlib.Core.Bool.{Bool, true, false, cond}
 use lib.Dec.{eqb}
-use lib.ListN.{length, getD, take}
 use Rattle.lists.specs.Laws.{All}
 use Rattle.lists.specs.Keep.{keep, answersTo}
 use Rattle.shares.specs.declared.Costs.{Costs}
@@ -15,92 +14,20 @@ use Rattle.walk.specs.declared.Job.{Job}
 use Rattle.walk.specs.declared.Chunk.{Chunk}
 use Rattle.walk.specs.Model.{Computes}
 use Rattle.planner.specs.declared.Farm.{Farm}
-use Rattle.answers.specs.declared.Offer.{Offer}
 use Rattle.planner.specs.Model.{costsFor, Span, linesOf, waitingOf}
-use Rattle.planner.specs.Calls.{Said, ofNumber, computeOf, planned, offerSaid, offerFarm, quoteSaid, withdrawSaid, withdrawFarm}
-use Rattle.planner.specs.Clock.{holds, moveSaid, moveFarm, moveMemory}
+use Rattle.planner.specs.Calls.{Said, ofNumber}
+use Rattle.planner.specs.Clock.{holds}
+pub use Rattle.planner.specs.Call.{Call, offer, quote, withdraw, move, account, Accepted, Noted, nothing, accepting, withdrawing, moving, does, reply, handed, isGranted, noted}
 
--- ---- A call
-
--- an offer; a quote of one; the withdrawal of a job by its number; or a move to a time, lent a timetable of any length and contents
-pub data Call : Type 0 where
-  offer : Offer → Call
-  quote : Offer → Call
-  withdraw : ℕ → Call
-  move : ℕ → List Chunk → Call
-
--- what it answers
-abbrev pub reply : Farm → Call → Said
-reply f (offer o) = offerSaid f o
-reply f (quote o) = quoteSaid f o
-reply f (withdraw n) = withdrawSaid f n
-reply f (move t m) = moveSaid f t (length m)
-
--- the farm that it hands back: a quote the farm that it was given
-abbrev pub handed : Farm → Call → Farm
-handed f (offer o) = offerFarm f o
-handed f (quote o) = f
-handed f (withdraw n) = withdrawFarm f n
-handed f (move t m) = moveFarm f t (length m)
-
--- whether all its questions were answered yes
-abbrev pub isGranted : Farm → Call → Bool
-isGranted f c = eqb (reply f c .number) 0
-
--- the chunks that it issues: as many records as it answers, from the front of the memory that it hands back
-abbrev pub linesBy : Farm → Call → List Chunk
-linesBy f (offer o) = []
-linesBy f (quote o) = []
-linesBy f (withdraw n) = []
-linesBy f (move t m) = cond (isGranted f (move t m)) (take (getD (moveSaid f t (length m) .values) 1 0) (moveMemory f t m)) []
+-- ---- Spans
 
 -- a chunk with the start that its job has at the move, where its node's span begins
 abbrev pub withStart : Farm → Chunk → Span
 withStart f x = record { from = ofNumber (x .job) (waitingOf f) .booking .start; chunk = x }
 
--- the spans of the chunks that it issues
-abbrev pub spansBy : Farm → Call → List Span
-spansBy f c = map (withStart f) (linesBy f c)
-
 -- the chunk of a span
 abbrev pub chunkOf : Span → Chunk
 chunkOf x = x .chunk
-
--- a job as it was accepted
-pub record Accepted : Type 0 where
-  pub number : ℕ
-  pub show : ℕ
-  pub size : ℕ
-  pub compute : ℕ
-  pub deadline : ℕ
-
--- the job that it accepts, with the number that it answers and the compute cost that is given or the farm's
-abbrev pub jobsBy : Farm → Call → List Accepted
-jobsBy f (offer o) = cond (isGranted f (offer o)) (record { number = getD (offerSaid f o .values) 0 0; show = o .show; size = o .size; compute = computeOf f o; deadline = o .deadline } ∷ []) []
-jobsBy f (quote o) = []
-jobsBy f (withdraw n) = []
-jobsBy f (move t m) = []
-
--- the number of the job that it withdraws: the one that it answers
-abbrev pub goneBy : Farm → Call → List ℕ
-goneBy f (offer o) = []
-goneBy f (quote o) = []
-goneBy f (withdraw n) = cond (isGranted f (withdraw n)) (getD (withdrawSaid f n .values) 0 0 ∷ []) []
-goneBy f (move t m) = []
-
--- the plan of the latest walk that replaced the plan: that of a granted offer, else the former
-abbrev pub planBy : Farm → List Job → Call → List Job
-planBy f js (offer o) = cond (isGranted f (offer o)) (planned f o) js
-planBy f js (quote o) = js
-planBy f js (withdraw n) = js
-planBy f js (move t m) = js
-
--- the time of the last granted clock move
-abbrev pub timeBy : Farm → ℕ → Call → ℕ
-timeBy f u (offer o) = u
-timeBy f u (quote o) = u
-timeBy f u (withdraw n) = u
-timeBy f u (move t m) = cond (isGranted f (move t m)) t u
 
 -- ---- A list of calls
 
@@ -119,17 +46,26 @@ pub record History : Type 0 where
 abbrev pub opening : Farm → History
 opening f = record { farm = f; lines = []; spans = []; jobs = []; gone = []; latest = []; time = 0 }
 
+-- the last of a list, otherwise this
+abbrev pub lastOr : {A : Type 0} → A → List A → A
+lastOr x [] = x
+lastOr x (y ∷ ys) = lastOr y ys
+
+-- after a call that handed this farm back, and of which this is noted
+abbrev pub noting : History → Farm → Noted → History
+noting w g n = record {
+  farm = g;
+  lines = w .lines ++ n .lines;
+  spans = w .spans ++ map (withStart (w .farm)) (n .lines);
+  jobs = w .jobs ++ n .jobs;
+  gone = w .gone ++ n .gone;
+  latest = lastOr (w .latest) (n .plans);
+  time = lastOr (w .time) (n .times);
+}
+
 -- after one call more
 abbrev pub note : History → Call → History
-note w c = record {
-  farm = handed (w .farm) c;
-  lines = w .lines ++ linesBy (w .farm) c;
-  spans = w .spans ++ spansBy (w .farm) c;
-  jobs = w .jobs ++ jobsBy (w .farm) c;
-  gone = w .gone ++ goneBy (w .farm) c;
-  latest = planBy (w .farm) (w .latest) c;
-  time = timeBy (w .farm) (w .time) c;
-}
+note w c = noting w (handed (w .farm) c) (noted (w .farm) c)
 
 -- after a list of calls
 unfoldable pub run : History → List Call → History
@@ -146,6 +82,7 @@ noQuote (offer o) = true
 noQuote (quote o) = false
 noQuote (withdraw n) = true
 noQuote (move t m) = true
+noQuote (account s) = true
 
 -- the list with its quotes left out, and what its other calls answer
 abbrev pub withoutQuotes : List Call → List Call
@@ -214,19 +151,15 @@ pub record Waits (x : Accepted) (f : Farm) : Type 0 where
   pub same : acceptedOf job ≡ x
   pub booked : Fulfils (f .costs) x (linesOf (f .costs) job)
 
--- the call is a granted clock move that reaches the start u
-abbrev pub Reaches : Farm → Call → ℕ → Type 0
-Reaches f (offer o) u = ⊥
-Reaches f (quote o) u = ⊥
-Reaches f (withdraw n) u = ⊥
-Reaches f (move t m) u = (isGranted f (move t m) ≡ true) × (u ≤ t)
+-- the call is a granted clock move, to a time that reaches the start u
+pub record Reaches (f : Farm) (c : Call) (u : ℕ) : Type 0 where
+  pub time : ℕ
+  pub moves : noted f c .times ≡ time ∷ []
+  pub start : u ≤ time
 
 -- the call is a granted withdrawal of job n
 abbrev pub Withdraws : Farm → Call → ℕ → Type 0
-Withdraws f (offer o) n = ⊥
-Withdraws f (quote o) n = ⊥
-Withdraws f (withdraw k) n = (isGranted f (withdraw k) ≡ true) × (k ≡ n)
-Withdraws f (move t m) n = ⊥
+Withdraws f c n = noted f c .gone ≡ n ∷ []
 
 -- no chunk of job n is among these
 abbrev pub NoneOf : ℕ → List Chunk → Type 0
@@ -235,18 +168,18 @@ NoneOf n xs = All (λ (y : Chunk). y .job ≡ n → ⊥) xs
 -- none of these calls issues a chunk of job n
 abbrev pub IssuesNone : ℕ → Farm → List Call → Type 0
 IssuesNone n f [] = Unit
-IssuesNone n f (c ∷ cs) = NoneOf n (linesBy f c) × IssuesNone n (handed f c) cs
+IssuesNone n f (c ∷ cs) = NoneOf n (noted f c .lines) × IssuesNone n (handed f c) cs
 
 -- what becomes of a job accepted as x over the calls that follow
 pub data Lifecycle (x : Accepted) : Farm → List Call → Type 0 where
   -- it waits where the list ends
   waits : {f : Farm} → Waits x f → Lifecycle x f []
   -- it waits, and the call is no granted clock move that reaches the start it has then and no granted withdrawal of it, and issues no chunk of it
-  passes : {f : Farm} {c : Call} {cs : List Call} (h : Waits x f) → (Reaches f c (h .job .booking .start) → ⊥) → (Withdraws f c (x .number) → ⊥) → NoneOf (x .number) (linesBy f c)
+  passes : {f : Farm} {c : Call} {cs : List Call} (h : Waits x f) → (Reaches f c (h .job .booking .start) → ⊥) → (Withdraws f c (x .number) → ⊥) → NoneOf (x .number) (noted f c .lines)
       → Lifecycle x (handed f c) cs → Lifecycle x f (c ∷ cs)
   -- it waits, and the call is a granted clock move that reaches the start it has then: all its chunks are issued, each once, and none later
-  begins : {f : Farm} {c : Call} {cs : List Call} (h : Waits x f) → Reaches f c (h .job .booking .start) → linesFor (x .number) (linesBy f c) ≡ linesOf (f .costs) (h .job)
+  begins : {f : Farm} {c : Call} {cs : List Call} (h : Waits x f) → Reaches f c (h .job .booking .start) → linesFor (x .number) (noted f c .lines) ≡ linesOf (f .costs) (h .job)
       → IssuesNone (x .number) (handed f c) cs → Lifecycle x f (c ∷ cs)
   -- it waits, and the call is a granted withdrawal of it: no chunk of it is issued then or later
-  withdrawn : {f : Farm} {c : Call} {cs : List Call} (h : Waits x f) → Withdraws f c (x .number) → NoneOf (x .number) (linesBy f c) → IssuesNone (x .number) (handed f c) cs
+  withdrawn : {f : Farm} {c : Call} {cs : List Call} (h : Waits x f) → Withdraws f c (x .number) → NoneOf (x .number) (noted f c .lines) → IssuesNone (x .number) (handed f c) cs
       → Lifecycle x f (c ∷ cs)

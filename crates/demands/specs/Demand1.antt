@@ -1,7 +1,7 @@
 -- Demand 1, a theorem a sentence:
 --   "The timetable memory lent to a call holds, after it, the lines of the answer at its front and its former
 --    contents everywhere else;"                                                       move-writes, shown-writes
---   "after a refusal it is unchanged throughout, and so is the farm."                  open-keeps, offer-keeps, withdraw-keeps, move-keeps, shown-keeps, quote-keeps
+--   "after a refusal it is unchanged throughout, and so is the farm."                  open-keeps, call-keeps, move-keeps, shown-keeps, quote-keeps
 --   "This is so for all arguments and lengths, and every call ends,"                   the functions' contracts, which have no `requires`
 --   "refused exactly where the papers name a refusal and granted otherwise."           open-asks, offer-asks, quote-asks, withdraw-asks, move-asks,
 --                                                                                      shown-asks, account-asks
@@ -16,7 +16,7 @@ use mathlib.Core.List.{List, [], _∷_, _++_, List·Memᴰ}
 use mathlib.Core.Bool.{Bool, true, false, cond, _&&_}
 use Prim.Native.Nat.{ℕ, zero, suc, _+_, _-_}
 use native.Mathlib.Omega.{arith}
-use borrow.Author.Tests.{eqb-false}
+use borrow.Author.Tests.{eqb-false, ne-eqb}
 use lib.Dec.{leb, ltb, eqb}
 use lib.ListN.{length, getD, drop}
 use Rattle.limits.specs.declared.FarmCosts.{FarmCosts}
@@ -34,7 +34,8 @@ use Rattle.planner.specs.Model.{greatest, between, costsWithin, linesOf, byStar
 use Rattle.planner.specs.Passes.{passesOf}
 use Rattle.planner.specs.Calls.{hasNumber, Open, Yes, Clock, Shown, Account, Gone, Quote, Said, granted, refused, showsWithin, openSaid, openFarm, unopened, openedWith, accountSaid, heldBy, allowanceOf, computeOf, planned, accepts, withPlan, ofNumber, yesOf, offerAsked, offerSaid, offerFarm, asQuote, quoteSaid, withdrawnFarm, withdrawSaid, withdrawFarm}
 use Rattle.planner.specs.Clock.{startsBy, begun, issued, movedFarm, moveAsked, moveSaid, moveFarm, moveMemory, shown, shownAsked, shownSaid, shownMemory}
-use Rattle.demands.specs.CallLists.{quote, handed}
+use Rattle.planner.specs.CallLaws.{refused-hands}
+use Rattle.demands.specs.CallLists.{Call, quote, reply, handed}
 use Rattle.demands.specs.BegunJobs.{lines-all}
 use Rattle.demands.specs.MovePasses.{Waiting, waiting-jobs}
 use Rattle.demands.specs.Outcome.{job-named}
@@ -160,40 +161,23 @@ open-keeps n c al k = go (between 1 n 64) (costsWithin c) (showsWithin al)
     go true false d e = refl
     go false b d e = refl
 
--- A refused offer hands back the farm as it was.
-pub offer-keeps : (f : Farm) (o : Offer) (k : ℕ) → offerSaid f o .number ≡ suc k → offerFarm f o ≡ f
-unfolding offerSaid offerFarm
-offer-keeps f o k = go (eqb (offerAsked f o) 0) (accepts f o) (yesOf (f .costs) (ofNumber (f .used + 1) (planned f o)) .values)
-  where
-    go : (a h : Bool) (vs : List ℕ) → cond {A = Said} a (cond h (granted Yes vs) (refused 8)) (refused (offerAsked f o)) .number ≡ suc k
-        → cond {A = Farm} a (cond h (withPlan f (planned f o)) f) f ≡ f
-    go true true vs e = absurd (omega arith)
-    go true false vs e = refl
-    go false h vs e = refl
+-- A refused call hands back the farm as it was.
+pub call-keeps : (f : Farm) (c : Call) (k : ℕ) → reply f c .number ≡ suc k → handed f c ≡ f
+call-keeps f c k e = refused-hands f c (ne-eqb (reply f c .number) 0 (λ h. omega (arith, e)))
 
 -- A quote, given or refused, hands back the farm as it was.
 pub quote-keeps : (f : Farm) (o : Offer) → handed f (quote o) ≡ f
 quote-keeps f o = refl
 
--- A refused withdrawal hands back the farm as it was.
-pub withdraw-keeps : (f : Farm) (n k : ℕ) → withdrawSaid f n .number ≡ suc k → withdrawFarm f n ≡ f
-unfolding withdrawSaid withdrawFarm
-withdraw-keeps f n k = go (passesOf f) (hasNumber n (waitingOf f))
-  where
-    go : (a b : Bool) → cond {A = Said} a (cond b (granted Gone (n ∷ [])) (refused 12)) (refused 11) .number ≡ suc k → cond {A = Farm} (a && b) (withdrawnFarm f n) f ≡ f
-    go true true e = absurd (omega arith)
-    go true false e = refl
-    go false b e = refl
-
--- A refused clock move hands back the farm and the lent memory as they were.
-pub move-keeps : (f : Farm) (t : ℕ) (m : List Chunk) (k : ℕ) → moveSaid f t (length m) .number ≡ suc k → (moveFarm f t (length m) ≡ f) × (moveMemory f t m ≡ m)
-unfolding moveSaid moveFarm moveMemory
+-- A refused clock move leaves the lent memory as it was.
+pub move-keeps : (f : Farm) (t : ℕ) (m : List Chunk) (k : ℕ) → moveSaid f t (length m) .number ≡ suc k → moveMemory f t m ≡ m
+unfolding moveSaid moveMemory
 move-keeps f t m k = go (eqb (moveAsked f t (length m)) 0)
   where
     go : (a : Bool) → cond {A = Said} a (granted Clock (t ∷ length (issued f t) ∷ [])) (refused (moveAsked f t (length m))) .number ≡ suc k
-        → (cond {A = Farm} a (movedFarm f t) f ≡ f) × (cond {A = List Chunk} a (issued f t ++ drop (length (issued f t)) m) m ≡ m)
+        → cond {A = List Chunk} a (issued f t ++ drop (length (issued f t)) m) m ≡ m
     go true e = absurd (omega arith)
-    go false e = (refl, refl)
+    go false e = refl
 
 -- Refused showing leaves the lent memory as it was (the farm comes back as it was in any case).
 pub shown-keeps : (f : Farm) (m : List Chunk) (k : ℕ) → shownSaid f (length m) .number ≡ suc k → shownMemory f m ≡ m
@@ -245,6 +229,19 @@ withdraw-leaves f n = go (passesOf f) (hasNumber n (waitingOf f))
     go true true e = (refl, refl)
     go true false e = absurd (omega arith)
     go false b e = absurd (omega arith)
+
+-- ---- An account says both columns
+
+-- A granted account answers the show, its held ticks and what is above its allowance.
+pub account-says : (f : Farm) (s : ℕ) → accountSaid f s .number ≡ 0 → accountSaid f s ≡ granted Account (s ∷ heldBy f s ∷ (heldBy f s - allowanceOf f s) ∷ [])
+unfolding accountSaid
+account-says f s = go (passesOf f) (between 1 s (f .shows)) (s ∷ heldBy f s ∷ (heldBy f s - allowanceOf f s) ∷ [])
+  where
+    go : (a b : Bool) (vs : List ℕ) → cond {A = Said} a (cond b (granted Account vs) (refused 4)) (refused 11) .number ≡ 0
+        → cond {A = Said} a (cond b (granted Account vs) (refused 4)) (refused 11) ≡ granted Account vs
+    go true true vs e = refl
+    go true false vs e = absurd (omega arith)
+    go false b vs e = absurd (omega arith)
 
 -- ---- A grant writes its lines and nothing else
 

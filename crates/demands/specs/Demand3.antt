@@ -31,7 +31,7 @@
 -- after it always hand back a farm that passes": passes; "shorter moves then get through, as no two jobs share a start": starts, next.
 use mathlib.Core.Path.{_≡_, refl, ap, sym, subst, _∙_}
 use mathlib.Core.List.{List, [], _∷_, _++_, map, map-map, List·Memᴰ, List·Memᴰ·head, List·Permᴰ, Permᴰ·map, Permᴰ·symm, Permᴰ·append-left}
-use mathlib.Core.Bool.{Bool, true, false, cond, _&&_, false≢true}
+use mathlib.Core.Bool.{Bool, true, false, cond, _&&_}
 use mathlib.Core.Logic.{_⊎_, inl, inr, ⊎-elim}
 use Prim.Native.Nat.{ℕ, zero, suc, _+_, _-_, _≤_, _<_, max}
 use native.Mathlib.Nat.{mul-le-mul-right}
@@ -53,25 +53,24 @@ use Rattle.answers.specs.declared.Offer.{Offer}
 use Rattle.planner.specs.Model.{mostHeld, between, costsWithin, ownCosts, Span, linesOf, spansOf, spansOfAll, Sized, after, afters, byDeadline, byStart, plan, waitingOf, busyOf, termsOf, Between, Apart}
 use Rattle.planner.specs.Passes.{passesOf}
 use Rattle.walk.specs.Chain.{Fits, Chain, chain-append, Proper, free-same, free-other, after-length, chain-apart}
-use Rattle.walk.specs.Order.{by-start-perm, by-deadline-perm}
+use Rattle.walk.specs.Order.{by-start-perm}
 use Rattle.walk.specs.BestWalk.{BestAll, walk-best}
 use Rattle.planner.specs.CallsSteps.{walk-ready}
 use Rattle.planner.specs.OfferSteps.{offer-offered}
 use Rattle.soundness.specs.Sweep.{spans-all, spans-perm, apart-sym}
 use Rattle.demands.specs.QuestionEleven.{passes-iff}
 use Rattle.planner.specs.Calls.{ofNumber, without, Open, Said, granted, refused, showsWithin, openFarm, openSaid, heldBy, newJob, queueOf, planned, withPlan, asQuote, withdrawnFarm}
-use Rattle.planner.specs.Changes.{queue-waits}
 use Rattle.planner.specs.Clock.{holds, linesOfAll, begun, issued, moveAsked}
 use Rattle.demands.specs.Starts.{StartsDiffer, starts-differ, next-few, next-granted}
-use Rattle.demands.specs.CallLists.{Call, offer, quote, withdraw, move, reply, handed, isGranted, linesBy, chunkOf, Accepted, jobsBy, History, opening, note, run, answersOf, withoutQuotes, otherAnswers, heldOf, upTo, linesFor, latestFinish, latestSent, acceptedOf, Fulfils, Waits, IssuesNone, Lifecycle}
+use Rattle.demands.specs.CallLists.{Call, offer, quote, withdraw, Accepted, Noted, nothing, accepting, withdrawing, moving, reply, handed, isGranted, noted, chunkOf, History, opening, lastOr, note, run, answersOf, withoutQuotes, otherAnswers, heldOf, upTo, linesFor, latestFinish, latestSent, acceptedOf, Fulfils, Waits, IssuesNone, Lifecycle}
 use Rattle.demands.specs.BegunJobs.{lines-all}
 use Rattle.queue.specs.Numbers.{numberOfJob, of-number-has}
 use Rattle.demands.specs.WithdrawPasses.{leaves-others, withdrawn-waiting}
 use Rattle.demands.specs.MovePasses.{Waiting, waiting-jobs, booked-chain}
-use Rattle.demands.specs.Outcome.{taken, Takes, Leaves, Moves, outcome}
-use Rattle.demands.specs.Invariant.{idle, Whole, Inv, plan-accepted, spans-issued, busy-spans, whole-proper, issued-within-free, open-inv, note-inv, run-inv}
+use Rattle.demands.specs.Outcome.{taken, Outcome, stays, takes, leaves, moves, granted-offer, granted-withdrawal, outcome}
+use Rattle.demands.specs.Invariant.{idle, Whole, Inv, spans-issued, busy-spans, whole-proper, issued-within-free, open-inv, note-inv, run-inv}
 use Rattle.demands.specs.Quotes.{quote-next, run-without, answers-without}
-use Rattle.demands.specs.Lifecycles.{lines-named, none-of-jobs, lines-none, lines-own, spans-start, whole-fulfils, waits-as, NoLongerWaits, issues-no-more, begun-no-longer-waits, front-differ, none-before, Among, lifecycle}
+use Rattle.demands.specs.Lifecycles.{lines-named, none-of-jobs, lines-none, lines-own, spans-start, whole-fulfils, waits-as, NoLongerWaits, issues-no-more, begun-no-longer-waits, front-differ, none-before, Among, among-walks, lifecycle}
 
 -- ---- The claim
 
@@ -108,11 +107,12 @@ pub record Withdrawal (f : Farm) (n : ℕ) : Type 0 where
   pub order : waitingOf (handed f (withdraw n)) ≡ without n (waitingOf f)
   pub others : List·Permᴰ (waitingOf f) (job ∷ waitingOf (handed f (withdraw n)))
 
--- The walk of an offer that was accepted after v: what it knew, and that it gave each job the best of all choices behind those before it (demand 2).
-pub record Walked (v : History) (o : Offer) : Type 0 where
+-- A walk of the jobs js after v, which leaves the plan `latest`: what it knew, and that it gave each job the best of all choices behind those before it
+-- (demand 2).
+pub record Walked (v : History) (js latest : List Job) : Type 0 where
   -- its plan replaced the old one
-  pub plans : note v (offer o) .latest ≡ plan (termsOf (v .farm)) (busyOf (v .farm)) (byDeadline (waitingOf (v .farm) ++ newJob (v .farm) o ∷ []))
-  pub best : BestAll (termsOf (v .farm)) (busyOf (v .farm)) (byDeadline (waitingOf (v .farm) ++ newJob (v .farm) o ∷ []))
+  pub plans : latest ≡ plan (termsOf (v .farm)) (busyOf (v .farm)) (byDeadline js)
+  pub best : BestAll (termsOf (v .farm)) (busyOf (v .farm)) (byDeadline js)
   -- it knew the clock, and as free times the latest finish of an issued chunk on each node and the latest end of an issued send
   pub clock : termsOf (v .farm) .clock ≡ v .time
   pub free : (k : ℕ) → Between 1 k (v .farm .nodes) → freeAt (busyOf (v .farm) .free) k ≡ latestFinish k (v .lines)
@@ -135,12 +135,12 @@ pub record Demand3 (f : Farm) (cs : List Call) (w : History) : Type 0 where
   -- They are issued, each once, all by the first granted clock move after its acceptance to reach the start it has at that move; or a granted withdrawal
   -- names it before, and none is issued.
   pub stories : (before : List Call) (c : Call) (after : List Call) → Split cs before c after
-      → All (λ (x : Accepted). Lifecycle x (handed (run (opening f) before .farm) c) after) (jobsBy (run (opening f) before .farm) c)
+      → All (λ (x : Accepted). Lifecycle x (handed (run (opening f) before .farm) c) after) (noted (run (opening f) before .farm) c .jobs)
   -- No others are ever issued.
   pub only : All (λ (y : Chunk). List·Memᴰ (y .job) (map (λ (x : Accepted). x .number) (w .jobs))) (w .lines)
   -- No later call alters an issued chunk: none issues a chunk of its job.
   pub unaltered : (before : List Call) (c : Call) (after : List Call) → Split cs before c after
-      → All (λ (y : Chunk). IssuesNone (y .job) (handed (run (opening f) before .farm) c) after) (linesBy (run (opening f) before .farm) c)
+      → All (λ (y : Chunk). IssuesNone (y .job) (handed (run (opening f) before .farm) c) after) (noted (run (opening f) before .farm) c .lines)
   -- No two chunks, issued or booked, share a tick of a node or of the link. The spans noted are those of the chunks issued.
   pub apart : Pairs Apart (w .spans ++ spansOfAll (w .farm .costs) (waitingOf (w .farm)))
   pub spans : map chunkOf (w .spans) ≡ w .lines
@@ -160,7 +160,7 @@ pub record Demand3 (f : Farm) (cs : List Call) (w : History) : Type 0 where
   pub accepted : All (λ (j : Job). List·Memᴰ (acceptedOf j) (w .jobs)) (waitingOf (w .farm))
   -- Each such walk knew the clock, the waiting jobs, the new one and the free times that the issued chunks left.
   pub walks : (before : List Call) (o : Offer) (after : List Call) → Split cs before (offer o) after → isGranted (run (opening f) before .farm) (offer o) ≡ true
-      → Walked (run (opening f) before) o
+      → Walked (run (opening f) before) (waitingOf (run (opening f) before .farm) ++ newJob (run (opening f) before .farm) o ∷ []) (note (run (opening f) before) (offer o) .latest)
   -- Each granted withdrawal takes that job out of those that wait, and changes nothing else.
   pub withdrawals : (before : List Call) (n : ℕ) (after : List Call) → Split cs before (withdraw n) after → isGranted (run (opening f) before .farm) (withdraw n) ≡ true
       → Withdrawal (run (opening f) before .farm) n
@@ -355,71 +355,69 @@ module _ (w : History) (i : Inv w) where
 -- ---- One call of the list
 
 -- A job that a call accepts waits after it.
-new-among : (f : Farm) (c : Call) → Sized f → All (λ (x : Accepted). Among x (handed f c)) (jobsBy f c)
-new-among f (quote o) z = tt
-new-among f (withdraw n) z = tt
-new-among f (move t m) z = tt
-new-among f (offer o) z = ⊎-elim (λ r. subst (All (λ (x : Accepted). Among x (handed f (offer o)))) (sym (r .jobs)) tt) takes (outcome f (offer o) z)
+new-among : (f : Farm) (c : Call) → Sized f → All (λ (x : Accepted). Among x (handed f c)) (noted f c .jobs)
+new-among f c z = go (outcome f c)
   where
-    takes : Takes f o → All (λ (x : Accepted). Among x (handed f (offer o))) (jobsBy f (offer o))
-    takes k =
-        let new = newJob f o ∷ [] in
-        let one : List·Memᴰ (taken f o) (map acceptedOf (waitingOf f ++ new)) = mem-image acceptedOf (mem-right (waitingOf f) (List·Memᴰ·head refl)) in
-        let two : List·Memᴰ (taken f o) (map acceptedOf (queueOf f o)) = perm-mem (Permᴰ·map acceptedOf (by-deadline-perm (waitingOf f ++ new))) one in
-        let three : Among (taken f o) (withPlan f (planned f o)) =
-        subst (λ (l : List Job). List·Memᴰ (taken f o) (map acceptedOf l)) (sym (queue-waits f (f .used + 1) (planned f o)))
-        (subst (List·Memᴰ (taken f o)) (sym (plan-accepted (termsOf f) (busyOf f) (queueOf f o))) two) in
-        subst (All (λ (x : Accepted). Among x (handed f (offer o)))) (sym (k .jobs)) (subst (Among (taken f o)) (sym (k .hands)) three, tt)
+    all : (n : Noted) → noted f c ≡ n → All (λ (x : Accepted). Among x (handed f c)) (n .jobs) → All (λ (x : Accepted). Among x (handed f c)) (noted f c .jobs)
+    all n q h = subst (λ (m : Noted). All (λ (x : Accepted). Among x (handed f c)) (m .jobs)) (sym q) h
+
+    new-taken : (o : Offer) → Among (taken f o) (withPlan f (planned f o))
+    new-taken o = among-walks (taken f o) f (f .used + 1) (waitingOf f ++ newJob f o ∷ []) (mem-image acceptedOf (mem-right (waitingOf f) (List·Memᴰ·head refl)))
+
+    go : Outcome f c → All (λ (x : Accepted). Among x (handed f c)) (noted f c .jobs)
+    go (stays h q) = all nothing q tt
+    go (takes o e k h q) = all (accepting (taken f o) (planned f o)) q (subst (Among (taken f o)) (sym h) (new-taken o), tt)
+    go (leaves n k h q) = all (withdrawing n) q tt
+    go (moves t n k h q) = all (moving t (issued f t)) q tt
+
+-- What a walk of any queue knew.
+walk-knew : (w : History) (js latest : List Job) → Inv w → latest ≡ plan (termsOf (w .farm)) (busyOf (w .farm)) (byDeadline js) → BestAll (termsOf (w .farm)) (busyOf (w .farm)) (byDeadline js)
+    → Walked w js latest
+walk-knew w js latest i e best = record { plans = e; best = best; clock = i .clock; free = node-free w i; link = link-free w i }
 
 -- The walk of an accepted offer.
-offer-walked : (w : History) (o : Offer) → Inv w → isGranted (w .farm) (offer o) ≡ true → Walked w o
-offer-walked w o i e = ⊎-elim (λ r. absurd (false≢true (sym (r .says) ∙ e))) takes (outcome (w .farm) (offer o) (i .sized))
-  where
-    takes : Takes (w .farm) o → Walked w o
-    takes k =
-        let f = w .farm in
-        let g = k .granted in
-        let n = passes-iff f (i .sized) .0 (i .passes) .within .nodes .1 in
-        record {
-          plans = k .latest (w .latest);
-          best = walk-best (termsOf f) (busyOf f) (queueOf f o) (walk-ready f (newJob f o) (offer-offered f o g))
-              (omega (arith, n, i .sized .free)) (k .books);
-          clock = i .clock;
-          free = node-free w i;
-          link = link-free w i;
-        }
+offer-walked : (w : History) (o : Offer) → Inv w → isGranted (w .farm) (offer o) ≡ true → Walked w (waitingOf (w .farm) ++ newJob (w .farm) o ∷ []) (note w (offer o) .latest)
+offer-walked w o i e =
+    let f = w .farm in
+    let k = granted-offer f o e in
+    let n = passes-iff f (i .sized) .0 (i .passes) .within .nodes .1 in
+    walk-knew w (waitingOf f ++ newJob f o ∷ []) (note w (offer o) .latest) i (ap (λ (m : Noted). lastOr (w .latest) (m .plans)) (k .2))
+    (walk-best (termsOf f) (busyOf f) (queueOf f o) (walk-ready f (newJob f o) (offer-offered f o (k .0 .granted))) (omega (arith, n, i .sized .free)) (k .0 .books))
 
 -- A granted withdrawal takes one job out.
 call-withdrawal : (f : Farm) (n : ℕ) → Sized f → isGranted f (withdraw n) ≡ true → Withdrawal f n
-call-withdrawal f n z e = ⊎-elim (λ r. absurd (false≢true (sym (r .says) ∙ e))) leaves (outcome f (withdraw n) z)
-  where
-    leaves : Leaves f n → Withdrawal f n
-    leaves k =
-        let now : waitingOf (handed f (withdraw n)) ≡ without n (waitingOf f) = ap waitingOf (k .hands) ∙ withdrawn-waiting f n z (k .passes) (k .has) in
-        record {
-          job = ofNumber n (waitingOf f);
-          number = of-number-has n (waitingOf f) (k .has);
-          farm = k .hands;
-          order = now;
-          others = subst (λ (l : List Job). List·Permᴰ (waitingOf f) (ofNumber n (waitingOf f) ∷ l)) (sym now) (leaves-others f n z (k .passes) (k .has));
-        }
+call-withdrawal f n z e =
+    let k = granted-withdrawal f n e in
+    let now : waitingOf (handed f (withdraw n)) ≡ without n (waitingOf f) = ap waitingOf (k .1) ∙ withdrawn-waiting f n z (k .0 .passes) (k .0 .has) in
+    record {
+      job = ofNumber n (waitingOf f);
+      number = of-number-has n (waitingOf f) (k .0 .has);
+      farm = k .1;
+      order = now;
+      others = subst (λ (l : List Job). List·Permᴰ (waitingOf f) (ofNumber n (waitingOf f) ∷ l)) (sym now) (leaves-others f n z (k .0 .passes) (k .0 .has));
+    }
 
 -- No call after it issues a chunk of a job that a call has issued.
-issued-issues-none : (w : History) (c : Call) (cs : List Call) → Inv w → All (λ (y : Chunk). IssuesNone (y .job) (handed (w .farm) c) cs) (linesBy (w .farm) c)
-issued-issues-none w (offer o) cs i = tt
-issued-issues-none w (quote o) cs i = tt
-issued-issues-none w (withdraw n) cs i = tt
-issued-issues-none w (move t m) cs i = ⊎-elim (λ r. subst (All P) (sym (r .lines)) tt) moves (outcome (w .farm) (move t m) (i .sized))
+issued-issues-none : (w : History) (c : Call) (cs : List Call) → Inv w → All (λ (y : Chunk). IssuesNone (y .job) (handed (w .farm) c) cs) (noted (w .farm) c .lines)
+issued-issues-none w c cs i = go (outcome (w .farm) c)
   where
-    P : Chunk → Type 0
-    P y = IssuesNone (y .job) (handed (w .farm) (move t m)) cs
+    f : Farm
+    f = w .farm
 
-    moves : Moves (w .farm) t m → All P (linesBy (w .farm) (move t m))
-    moves k =
-        let f = w .farm in
-        subst (All P) (sym (k .lines)) (lines-all P (f .costs) (begun f t) (all-of (begun f t) (λ j h.
-        all-map (λ y e. subst (λ (n : ℕ). IssuesNone n (handed f (move t m)) cs) (sym e)
-        (issues-no-more (j .number) (note w (move t m)) cs (note-inv w (move t m) i) (subst (NoLongerWaits (j .number)) (sym (k .hands)) (begun-no-longer-waits f t j (i .sized) (i .passes) h))))
+    P : Chunk → Type 0
+    P y = IssuesNone (y .job) (handed f c) cs
+
+    all : (n : Noted) → noted f c ≡ n → All P (n .lines) → All P (noted f c .lines)
+    all n q h = subst (λ (m : Noted). All P (m .lines)) (sym q) h
+
+    go : Outcome f c → All P (noted f c .lines)
+    go (stays h q) = all nothing q tt
+    go (takes o e k h q) = all (accepting (taken f o) (planned f o)) q tt
+    go (leaves n k h q) = all (withdrawing n) q tt
+    go (moves t n k h q) =
+        all (moving t (issued f t)) q (lines-all P (f .costs) (begun f t) (all-of (begun f t) (λ j m.
+        all-map (λ y e. subst (λ (a : ℕ). IssuesNone a (handed f c) cs) (sym e)
+        (issues-no-more (j .number) (note w c) cs (note-inv w c i) (subst (NoLongerWaits (j .number)) (sym h) (begun-no-longer-waits f t j (i .sized) (i .passes) m))))
         (linesOf (f .costs) j) (lines-named (f .costs) j))))
 
 -- ---- The theorem
@@ -450,7 +448,7 @@ demand3 n c al e cs =
       stories = λ before x after h.
           let v = run (opening f) before in
           let j : Inv (run (opening f) before) = run-inv (opening f) before o in
-          all-map (λ y m. lifecycle y (note v x) after (note-inv v x j) m) (jobsBy (v .farm) x) (new-among (v .farm) x (j .sized));
+          all-map (λ y m. lifecycle y (note v x) after (note-inv v x j) m) (noted (v .farm) x .jobs) (new-among (v .farm) x (j .sized));
       only = only-jobs w i;
       unaltered = λ before x after h. issued-issues-none (run (opening f) before) x after (run-inv (opening f) before o);
       apart = all-apart w i;

@@ -2,7 +2,6 @@
 use mathlib.Core.Path.{_≡_, refl, ap, sym, subst, _∙_}
 use mathlib.Core.List.{List, [], _∷_, _++_, map, append-nil, append-assoc, List·Memᴰ, List·Permᴰ, List·Permᴰ·nil, List·Permᴰ·cons, List·Permᴰ·trans, List·Permᴰ·append-comm, Permᴰ·map, Permᴰ·append-left, Permᴰ·append-right, Permᴰ·middle}
 use mathlib.Core.Bool.{true, _&&_}
-use mathlib.Core.Logic.{⊎-elim}
 use Prim.Native.Nat.{ℕ, suc, _+_, _-_, _≤_, _<_}
 use native.Mathlib.Omega.{arith}
 use native.Mathlib.Numerals.{add-one}
@@ -19,24 +18,24 @@ use Rattle.walk.specs.declared.Busy.{Busy}
 use Rattle.walk.specs.declared.Chunk.{Chunk}
 use Rattle.planner.specs.declared.Farm.{Farm}
 use Rattle.answers.specs.declared.Offer.{Offer}
-use Rattle.planner.specs.Model.{greatest, mostHeld, between, costsWithin, finishOf, Span, linesOf, spansOf, spansOfAll, Sized, afters, waitingOf, busyOf, termsOf, busyAfter, plan, Between}
+use Rattle.planner.specs.Model.{greatest, mostHeld, between, costsWithin, finishOf, Span, linesOf, spansOf, spansOfAll, Sized, afters, waitingOf, busyOf, termsOf, busyAfter, byDeadline, plan, Between}
 use Rattle.planner.specs.Passes.{passesOf}
 use Rattle.walk.specs.Chain.{Chain, chain-append, Proper, job-finish, afters-length}
 use Rattle.walk.specs.Order.{by-deadline-perm}
 use Rattle.soundness.specs.Sweep.{spans-all}
 use Rattle.soundness.specs.Sound.{Paired}
 use Rattle.demands.specs.QuestionEleven.{passes-iff}
-use Rattle.planner.specs.Calls.{ofNumber, without, openedWith, showsWithin, openFarm, heldBy, newJob, queueOf, planned, withPlan, withdrawnFarm}
+use Rattle.planner.specs.Calls.{ofNumber, without, openedWith, showsWithin, openFarm, heldBy, newJob, planned, withPlan, withdrawnFarm}
 use Rattle.planner.specs.Changes.{queue-waits}
 use Rattle.demands.specs.OfferPasses.{all-replicate, opens-with, open-sized, open-passes, accepted-sized, accepted-passes}
 use Rattle.planner.specs.Clock.{holds, linesOfAll, begun, left, issued, movedFarm}
-use Rattle.demands.specs.CallLists.{Call, offer, quote, withdraw, move, Accepted, History, withStart, chunkOf, opening, note, run, heldOf, upTo, acceptedOf}
+use Rattle.demands.specs.CallLists.{Call, Accepted, Noted, nothing, accepting, withdrawing, moving, handed, noted, History, chunkOf, opening, noting, note, run, heldOf, upTo, acceptedOf}
 use Rattle.timetable.specs.BeginSteps.{afters-append}
 use Rattle.demands.specs.BegunJobs.{begun-left, lines-joined, lines-all, spans-append, spans-chunks}
 use Rattle.demands.specs.HeldTicks.{afters-within, sum-within, held-part, held-append, held-free, raised-held}
 use Rattle.demands.specs.WithdrawPasses.{leaves-others, withdrawn-waiting, withdrawn-sized, withdrawn-passes}
 use Rattle.demands.specs.MovePasses.{Waiting, moved-chain, begun-jobs, moved-waiting, moved-sized, moved-passes}
-use Rattle.demands.specs.Outcome.{Refused, taken, Takes, Leaves, Moves, outcome, job-named}
+use Rattle.demands.specs.Outcome.{taken, Takes, Leaves, Outcome, stays, takes, leaves, moves, outcome, started-issued, job-named}
 
 -- ---- The invariant
 
@@ -128,18 +127,15 @@ same-world : {f g : Farm} {k l : List Chunk} {r s : List Span} {i j : List Accep
     → historyOf f k r i m p t ≡ historyOf g l s j n q u
 same-world a b y c d e x = rw (a, b, y, c, d, e, x)
 
--- ---- A refused call
+-- ---- What is noted
 
--- A refused call changes nothing.
-pub refused-note : (w : History) (c : Call) → Refused (w .farm) c → note w c ≡ w
-refused-note w c r =
-    same-world (r .hands) (ap (λ (l : List Chunk). w .lines ++ l) (r .lines) ∙ append-nil (w .lines))
-    (ap (λ (l : List Chunk). w .spans ++ map (withStart (w .farm)) l) (r .lines) ∙ append-nil (w .spans)) (ap (λ (l : List Accepted). w .jobs ++ l) (r .jobs) ∙ append-nil (w .jobs))
-    (ap (λ (l : List ℕ). w .gone ++ l) (r .gone) ∙ append-nil (w .gone)) (r .latest (w .latest)) (r .time (w .time))
+-- A call notes what it is known to hand back and to note.
+noting-as : (w : History) (c : Call) {g : Farm} {n : Noted} → handed (w .farm) c ≡ g → noted (w .farm) c ≡ n → note w c ≡ noting w g n
+noting-as w c h q = rw (h, q)
 
--- So it is of a quote, given or refused.
-pub quote-note : (w : History) (o : Offer) → note w (quote o) ≡ w
-quote-note w o = same-world refl (append-nil (w .lines)) (append-nil (w .spans)) (append-nil (w .jobs)) (append-nil (w .gone)) refl refl
+-- A call that is refused or only tells changes nothing.
+pub stays-note : (w : History) (c : Call) → handed (w .farm) c ≡ w .farm → noted (w .farm) c ≡ nothing → note w c ≡ w
+stays-note w c h q = noting-as w c h q ∙ same-world refl (append-nil (w .lines)) (append-nil (w .spans)) (append-nil (w .jobs)) (append-nil (w .gone)) refl refl
 
 -- ---- An accepted offer
 
@@ -149,27 +145,29 @@ unfolding plan
 plan-accepted w b [] = refl
 plan-accepted w b (j ∷ js) = ap (λ (l : List Accepted). acceptedOf j ∷ l) (plan-accepted w (busyAfter w b j) js)
 
+-- A walk of any queue keeps what its jobs were accepted as.
+pub queue-accepted : (w : Terms) (b : Busy) (js : List Job) → List·Permᴰ (map acceptedOf js) (map acceptedOf (plan w b (byDeadline js)))
+queue-accepted w b js = subst (List·Permᴰ (map acceptedOf js)) (sym (plan-accepted w b (byDeadline js))) (Permᴰ·map acceptedOf (by-deadline-perm js))
+
+-- Where the queue is the waiting jobs and new ones, each accepted job was withdrawn, has begun or is planned after the walk.
+walked-jobs : (w : Terms) (b : Busy) (jobs gone new : List Accepted) (past ws js : List Job) → map acceptedOf js ≡ map acceptedOf ws ++ new → List·Permᴰ jobs (gone ++ map acceptedOf (past ++ ws))
+    → List·Permᴰ (jobs ++ new) (gone ++ map acceptedOf (past ++ plan w b (byDeadline js)))
+walked-jobs w b jobs gone new past ws js e h =
+    let begun′ = map acceptedOf past in
+    let all : (gone ++ map acceptedOf (past ++ ws)) ++ new ≡ gone ++ (begun′ ++ map acceptedOf js) =
+    append-assoc gone (map acceptedOf (past ++ ws)) new
+    ∙ ap (λ (l : List Accepted). gone ++ (l ++ new)) (map-join acceptedOf past ws)
+    ∙ ap (λ (l : List Accepted). gone ++ l) (append-assoc begun′ (map acceptedOf ws) new ∙ ap (λ (l : List Accepted). begun′ ++ l) (sym e)) in
+    List·Permᴰ·trans (subst (List·Permᴰ (jobs ++ new)) all (Permᴰ·append-right new h))
+    (subst (λ (l : List Accepted). List·Permᴰ (gone ++ (begun′ ++ map acceptedOf js)) (gone ++ l)) (sym (map-join acceptedOf past (plan w b (byDeadline js))))
+    (Permᴰ·append-left gone (Permᴰ·append-left begun′ (queue-accepted w b js))))
+
 module _ (w : History) (o : Offer) where
   abbrev offered : History
   offered = historyOf (withPlan (w .farm) (planned (w .farm) o)) (w .lines) (w .spans) (w .jobs ++ taken (w .farm) o ∷ []) (w .gone) (planned (w .farm) o) (w .time)
 
-  takes-note : Takes (w .farm) o → note w (offer o) ≡ offered
-  takes-note k = same-world (k .hands) (append-nil (w .lines)) (append-nil (w .spans)) (ap (λ (l : List Accepted). w .jobs ++ l) (k .jobs)) (append-nil (w .gone)) (k .latest (w .latest)) refl
-
-  taken-jobs : (gone : List Accepted) (past : List Job) → List·Permᴰ (w .jobs) (gone ++ map acceptedOf (past ++ waitingOf (w .farm)))
-      → List·Permᴰ (w .jobs ++ taken (w .farm) o ∷ []) (gone ++ map acceptedOf (past ++ planned (w .farm) o))
-  taken-jobs gone past h =
-      let f = w .farm in
-      let ws = waitingOf f in
-      let new = newJob f o ∷ [] in
-      let one : List·Permᴰ (w .jobs ++ taken f o ∷ []) (gone ++ (map acceptedOf (past ++ ws) ++ map acceptedOf new)) =
-      subst (List·Permᴰ (w .jobs ++ taken f o ∷ [])) (append-assoc gone (map acceptedOf (past ++ ws)) (map acceptedOf new)) (Permᴰ·append-right (taken f o ∷ []) h) in
-      let two : map acceptedOf (past ++ ws) ++ map acceptedOf new ≡ map acceptedOf (past ++ (ws ++ new)) =
-      sym (map-join acceptedOf (past ++ ws) new) ∙ ap (map acceptedOf) (append-assoc past ws new) in
-      let three : List·Permᴰ (map acceptedOf (past ++ (ws ++ new))) (map acceptedOf (past ++ queueOf f o)) = Permᴰ·map acceptedOf (Permᴰ·append-left past (by-deadline-perm (ws ++ new))) in
-      let four : map acceptedOf (past ++ queueOf f o) ≡ map acceptedOf (past ++ planned f o) =
-      map-join acceptedOf past (queueOf f o) ∙ ap (λ (l : List Accepted). map acceptedOf past ++ l) (sym (plan-accepted (termsOf f) (busyOf f) (queueOf f o))) ∙ sym (map-join acceptedOf past (planned f o)) in
-      List·Permᴰ·trans (subst (λ (l : List Accepted). List·Permᴰ (w .jobs ++ taken f o ∷ []) (gone ++ l)) two one) (Permᴰ·append-left gone (subst (List·Permᴰ (map acceptedOf (past ++ (ws ++ new)))) four three))
+  takes-note : noting w (withPlan (w .farm) (planned (w .farm) o)) (accepting (taken (w .farm) o) (planned (w .farm) o)) ≡ offered
+  takes-note = same-world refl (append-nil (w .lines)) (append-nil (w .spans)) refl (append-nil (w .gone)) refl refl
 
   taken-numbers : map (λ (x : Accepted). x .number) (w .jobs) ≡ upTo (w .farm .used) → map (λ (x : Accepted). x .number) (w .jobs ++ taken (w .farm) o ∷ []) ≡ upTo (w .farm .used + 1)
   unfolding upTo
@@ -193,7 +191,7 @@ module _ (w : History) (o : Offer) where
         chain = i .chain;
         busy = i .busy;
         held = i .held;
-        jobs = subst (λ (l : List Job). List·Permᴰ (w .jobs ++ taken f o ∷ []) (i .gone ++ map acceptedOf (i .past ++ l))) (sym now) (taken-jobs (i .gone) (i .past) (i .jobs));
+        jobs = subst (λ (l : List Job). List·Permᴰ (w .jobs ++ taken f o ∷ []) (i .gone ++ map acceptedOf (i .past ++ l))) (sym now) (walked-jobs (termsOf f) (busyOf f) (w .jobs) (i .gone) (taken f o ∷ []) (i .past) (waitingOf f) (waitingOf f ++ newJob f o ∷ []) (map-join acceptedOf (waitingOf f) (newJob f o ∷ [])) (i .jobs));
         named = i .named;
         numbers = taken-numbers (i .numbers);
         latest = subst (All (λ (j : Job). List·Memᴰ j (planned f o))) (sym now) (all-of (planned f o) (λ j m. m));
@@ -206,8 +204,8 @@ module _ (w : History) (n : ℕ) where
   abbrev departed : History
   departed = historyOf (withdrawnFarm (w .farm) n) (w .lines) (w .spans) (w .jobs) (w .gone ++ n ∷ []) (w .latest) (w .time)
 
-  leaves-note : Leaves (w .farm) n → note w (withdraw n) ≡ departed
-  leaves-note k = same-world (k .hands) (append-nil (w .lines)) (append-nil (w .spans)) (append-nil (w .jobs)) (ap (λ (l : List ℕ). w .gone ++ l) (k .gone)) refl refl
+  leaves-note : noting w (withdrawnFarm (w .farm) n) (withdrawing n) ≡ departed
+  leaves-note = same-world refl (append-nil (w .lines)) (append-nil (w .spans)) (append-nil (w .jobs)) refl refl refl
 
   module _ (i : Inv w) (k : Leaves (w .farm) n) where
     abbrev leaver : Job
@@ -316,14 +314,14 @@ issued-within-free w i =
 
 -- ---- A granted clock move
 
-module _ (w : History) (t : ℕ) (m : List Chunk) where
+module _ (w : History) (t : ℕ) where
   abbrev moved : History
   moved = historyOf (movedFarm (w .farm) t) (w .lines ++ issued (w .farm) t) (w .spans ++ spansOfAll (w .farm .costs) (begun (w .farm) t)) (w .jobs) (w .gone) (w .latest) t
 
-  moves-note : Moves (w .farm) t m → note w (move t m) ≡ moved
-  moves-note k = same-world (k .hands) (ap (λ (l : List Chunk). w .lines ++ l) (k .lines)) (ap (λ (l : List Span). w .spans ++ l) (k .spans)) (append-nil (w .jobs)) (append-nil (w .gone)) refl (k .time (w .time))
+  module _ (i : Inv w) where
+    moves-note : noting w (movedFarm (w .farm) t) (moving t (issued (w .farm) t)) ≡ moved
+    moves-note = same-world refl refl (ap (λ (l : List Span). w .spans ++ l) (started-issued (w .farm) t (i .sized) (i .passes))) (append-nil (w .jobs)) (append-nil (w .gone)) refl refl
 
-  module _ (i : Inv w) (k : Moves (w .farm) t m) where
     moved-whole : All (Whole (w .farm .costs) (w .farm .shows)) (i .past ++ begun (w .farm) t)
     moved-whole =
         all-join (Whole (w .farm .costs) (w .farm .shows)) (i .past) (begun (w .farm) t) (i .whole)
@@ -390,8 +388,8 @@ module _ (w : History) (t : ℕ) (m : List Chunk) where
         all-append P (begun f t) (left f t) (perm-all P (begun-left f t) (i .latest)) .1
 
     -- A granted clock move keeps the invariant.
-    moves-inv : Inv moved
-    moves-inv =
+    moves-inv : t ≤ greatest → Inv moved
+    moves-inv limit =
         let f = w .farm in
         let after : waitingOf (movedFarm f t) ≡ left f t = moved-waiting f (i .sized) (i .passes) t in
         let size = moved-sized f (i .sized) (i .passes) t in
@@ -400,7 +398,7 @@ module _ (w : History) (t : ℕ) (m : List Chunk) where
           gone = i .gone;
           sized = size;
           passes = passes-iff (movedFarm f t) size .1
-              (moved-passes f (i .sized) (i .passes) t (k .granted .time .1) (all-take (λ (x : ℕ). x ≤ mostHeld) (f .shows) (movedFarm f t .held) held-within) (busy-within .0)
+              (moved-passes f (i .sized) (i .passes) t limit (all-take (λ (x : ℕ). x ≤ mostHeld) (f .shows) (movedFarm f t .held) held-within) (busy-within .0)
               (all-take (λ (x : ℕ). x ≤ greatest) (f .nodes) (movedFarm f t .free) (busy-within .1)));
           whole = moved-whole;
           lines = moved-lines;
@@ -419,10 +417,13 @@ module _ (w : History) (t : ℕ) (m : List Chunk) where
 
 -- A call keeps the invariant.
 pub note-inv : (w : History) (c : Call) → Inv w → Inv (note w c)
-note-inv w (offer o) i = ⊎-elim (λ r. subst Inv (sym (refused-note w (offer o) r)) i) (λ k. subst Inv (sym (takes-note w o k)) (takes-inv w o i k)) (outcome (w .farm) (offer o) (i .sized))
-note-inv w (quote o) i = subst Inv (sym (quote-note w o)) i
-note-inv w (withdraw n) i = ⊎-elim (λ r. subst Inv (sym (refused-note w (withdraw n) r)) i) (λ k. subst Inv (sym (leaves-note w n k)) (leaves-inv w n i k)) (outcome (w .farm) (withdraw n) (i .sized))
-note-inv w (move t m) i = ⊎-elim (λ r. subst Inv (sym (refused-note w (move t m) r)) i) (λ k. subst Inv (sym (moves-note w t m k)) (moves-inv w t m i k)) (outcome (w .farm) (move t m) (i .sized))
+note-inv w c i = go (outcome (w .farm) c)
+  where
+    go : Outcome (w .farm) c → Inv (note w c)
+    go (stays h q) = subst Inv (sym (stays-note w c h q)) i
+    go (takes o e k h q) = subst Inv (sym (noting-as w c h q ∙ takes-note w o)) (takes-inv w o i k)
+    go (leaves n k h q) = subst Inv (sym (noting-as w c h q ∙ leaves-note w n)) (leaves-inv w n i k)
+    go (moves t n k h q) = subst Inv (sym (noting-as w c h q ∙ moves-note w t i)) (moves-inv w t i (k .time .1))
 
 -- So does every list of calls.
 pub run-inv : (w : History) (cs : List Call) → Inv w → Inv (run w cs)

@@ -2,13 +2,13 @@
 -- reaches the start it has then, which issues all its chunks, each once; no later call issues one.
 use mathlib.Core.Path.{_≡_, refl, ap, ap₂, sym, subst, _∙_}
 use mathlib.Core.List.{List, [], _∷_, _++_, map, append-nil, List·Memᴰ, List·Memᴰ·head, List·Memᴰ·tail, List·Memᴰ·not-nil, List·Memᴰ·cases-cons, List·Memᴰ·append-cases, Permᴰ·map, Permᴰ·symm}
-use mathlib.Core.Bool.{Bool, true, false, cond, false≢true}
-use mathlib.Core.Logic.{_⊎_, inl, inr, ⊎-elim}
+use mathlib.Core.Bool.{Bool, true, false, cond}
+use mathlib.Core.Logic.{⊎-elim}
 use Prim.Native.Nat.{ℕ, _+_, _≤_}
 use native.Mathlib.Omega.{arith}
 use borrow.Author.Tests.{leb-true, leb-false, not-true, eq-eqb, ne-eqb}
 use lib.Dec.{eqb}
-use lib.ListN.{length}
+use lib.ListN.{length, getD}
 use Rattle.lists.specs.Laws.{All, Differ, all-map, all-of, at-member, all-image, image-all, all-append, all-join, pairs-across, mem-left, mem-right, map-join, perm-all, perm-mem, perm-pairs, pairs-parts}
 use Rattle.limits.specs.declared.FarmCosts.{FarmCosts}
 use Rattle.shares.specs.Model.{sum, sendEnd, chunkFinish}
@@ -17,25 +17,24 @@ use Rattle.walk.specs.declared.Job.{Job}
 use Rattle.walk.specs.declared.Chunk.{Chunk}
 use Rattle.planner.specs.declared.Farm.{Farm}
 use Rattle.answers.specs.declared.Offer.{Offer}
-use Rattle.planner.specs.Model.{costsFor, ownCosts, Span, chunksFrom, linesOf, spansOfAll, Sized, waitingOf, busyOf, termsOf}
+use Rattle.planner.specs.Model.{costsFor, ownCosts, Span, chunksFrom, linesOf, spansOfAll, Sized, waitingOf, busyOf, termsOf, byDeadline, plan}
 use Rattle.planner.specs.Passes.{passesOf}
 use Rattle.walk.specs.Chain.{chunks-finish}
 use Rattle.walk.specs.Chunks.{lines-each}
 use Rattle.walk.specs.EndOfComputing.{job-computes}
-use Rattle.walk.specs.Order.{by-deadline-perm}
-use Rattle.walk.specs.Plan.{plan-numbers}
 use Rattle.soundness.specs.Sweep.{spans-all}
-use Rattle.planner.specs.Calls.{hasNumber, ofNumber, without, newJob, queueOf, planned, withPlan, withdrawnFarm}
-use Rattle.planner.specs.Changes.{queue-waits}
+use Rattle.planner.specs.Calls.{hasNumber, ofNumber, without, newJob, planned, withPlan, withdrawnFarm}
+use Rattle.planner.specs.Changes.{withQueue, queue-waits}
+use Rattle.demands.specs.WalkPasses.{plan-queue-numbers}
 use Rattle.planner.specs.Clock.{startsBy, startsAfter, linesOfAll, begun, left, issued, movedFarm}
-use Rattle.demands.specs.CallLists.{Call, offer, quote, withdraw, move, handed, linesBy, Accepted, History, note, linesFor, unitsIn, acceptedOf, Fulfils, Waits, NoneOf, IssuesNone, Lifecycle, waits, passes, begins, withdrawn}
+use Rattle.demands.specs.CallLists.{Call, Accepted, Noted, withdrawing, moving, handed, noted, History, note, linesFor, unitsIn, acceptedOf, Fulfils, Waits, NoneOf, IssuesNone, Lifecycle, waits, passes, begins, withdrawn}
 use Rattle.lists.specs.Keep.{keep-all}
 use Rattle.demands.specs.BegunJobs.{begun-left, lines-all}
 use Rattle.queue.specs.Numbers.{numberOfJob, of-number-is, of-number-has}
 use Rattle.demands.specs.WithdrawPasses.{leaves-others, withdrawn-waiting, others-differ}
 use Rattle.demands.specs.MovePasses.{Waiting, waiting-jobs, waiting-differ, begun-jobs, moved-waiting}
-use Rattle.demands.specs.Outcome.{Refused, Takes, Leaves, Moves, outcome, job-named}
-use Rattle.demands.specs.Invariant.{Whole, Inv, waiting-whole, plan-accepted, note-inv}
+use Rattle.demands.specs.Outcome.{Leaves, Outcome, stays, takes, leaves, moves, outcome, job-named}
+use Rattle.demands.specs.Invariant.{Whole, Inv, waiting-whole, queue-accepted, note-inv}
 
 -- ---- Membership
 
@@ -182,41 +181,44 @@ module _ (xs ys : List Job) (d : Differ (map numberOfJob (xs ++ ys))) where
 -- ---- A job that waits no longer
 
 module _ (n : ℕ) (f : Farm) (z : Sized f) (e : passesOf f ≡ true) where
-  no-longer-takes : (o : Offer) → NoLongerWaits n f → Takes f o → NoLongerWaits n (withPlan f (planned f o))
-  no-longer-takes o g k =
-      let P : ℕ → Type 0 = λ (a : ℕ). a ≡ n → ⊥ in
-      let queue : All (λ (j : Job). j .number ≡ n → ⊥) (queueOf f o) =
-      perm-all (λ (j : Job). j .number ≡ n → ⊥) (by-deadline-perm (waitingOf f ++ newJob f o ∷ []))
-      (all-join (λ (j : Job). j .number ≡ n → ⊥) (waitingOf f) (newJob f o ∷ []) (g .none) ((λ q. omega (arith, g .used)), tt)) in
-      let all : All (λ (j : Job). j .number ≡ n → ⊥) (planned f o) =
-      image-all P numberOfJob (planned f o) (subst (All P) (sym (plan-numbers (termsOf f) (busyOf f) (queueOf f o))) (all-image P numberOfJob (queueOf f o) queue)) in
-      record {
-        used = omega (arith, g .used);
-        none = subst (All (λ (j : Job). j .number ≡ n → ⊥)) (sym (queue-waits f (f .used + 1) (planned f o))) all;
-      }
+  -- Nor does it wait after a walk of any queue that has no job of its number,
+  no-longer-walks : (u : ℕ) (js : List Job) → n ≤ u → All (λ (j : Job). j .number ≡ n → ⊥) js → NoLongerWaits n (withQueue f u (plan (termsOf f) (busyOf f) (byDeadline js)))
+  no-longer-walks u js h none = record {
+    used = h;
+    none = subst (All (λ (j : Job). j .number ≡ n → ⊥)) (sym (queue-waits f u (plan (termsOf f) (busyOf f) (byDeadline js)))) (plan-queue-numbers (λ (a : ℕ). a ≡ n → ⊥) (termsOf f) (busyOf f) js none);
+  }
+
+  -- as that of an offer has none.
+  no-longer-takes : (o : Offer) → NoLongerWaits n f → NoLongerWaits n (withPlan f (planned f o))
+  no-longer-takes o g =
+      no-longer-walks (f .used + 1) (waitingOf f ++ newJob f o ∷ []) (omega (arith, g .used))
+      (all-join (λ (j : Job). j .number ≡ n → ⊥) (waitingOf f) (newJob f o ∷ []) (g .none) ((λ q. omega (arith, g .used)), tt))
 
   no-longer-leaves : (k : ℕ) → NoLongerWaits n f → Leaves f k → NoLongerWaits n (withdrawnFarm f k)
   no-longer-leaves k g l =
       let P : Job → Type 0 = λ (j : Job). j .number ≡ n → ⊥ in
       record { used = g .used; none = subst (All P) (sym (withdrawn-waiting f k z e (l .has))) (perm-all P (leaves-others f k z e (l .has)) (g .none) .1) }
 
-  no-longer-moves : (t : ℕ) (m : List Chunk) → NoLongerWaits n f → Moves f t m → NoneOf n (linesBy f (move t m)) × NoLongerWaits n (handed f (move t m))
-  no-longer-moves t m g k =
+  no-longer-moves : (t : ℕ) → NoLongerWaits n f → NoneOf n (issued f t) × NoLongerWaits n (movedFarm f t)
+  no-longer-moves t g =
       let P : Job → Type 0 = λ (j : Job). j .number ≡ n → ⊥ in
       let both = all-append P (begun f t) (left f t) (perm-all P (begun-left f t) (g .none)) in (
-        subst (NoneOf n) (sym (k .lines)) (none-of-jobs (f .costs) n (begun f t) (both .0)),
-        subst (NoLongerWaits n) (sym (k .hands)) (record { used = g .used; none = subst (All P) (sym (moved-waiting f z e t)) (both .1) }),
+        none-of-jobs (f .costs) n (begun f t) (both .0),
+        record { used = g .used; none = subst (All P) (sym (moved-waiting f z e t)) (both .1) },
       )
 
   -- A call issues no chunk of a job that no longer waits before it, and the job does not wait after it either.
-  no-longer-stays : (c : Call) → NoLongerWaits n f → NoneOf n (linesBy f c) × NoLongerWaits n (handed f c)
-  no-longer-stays (offer o) g =
-      (tt, ⊎-elim (λ r. subst (NoLongerWaits n) (sym (r .hands)) g) (λ k. subst (NoLongerWaits n) (sym (k .hands)) (no-longer-takes o g k)) (outcome f (offer o) z))
-  no-longer-stays (quote o) g = (tt, g)
-  no-longer-stays (withdraw k) g =
-      (tt, ⊎-elim (λ r. subst (NoLongerWaits n) (sym (r .hands)) g) (λ l. subst (NoLongerWaits n) (sym (l .hands)) (no-longer-leaves k g l)) (outcome f (withdraw k) z))
-  no-longer-stays (move t m) g =
-      ⊎-elim (λ r. (subst (NoneOf n) (sym (r .lines)) tt, subst (NoLongerWaits n) (sym (r .hands)) g)) (λ k. no-longer-moves t m g k) (outcome f (move t m) z)
+  no-longer-stays : (c : Call) → NoLongerWaits n f → NoneOf n (noted f c .lines) × NoLongerWaits n (handed f c)
+  no-longer-stays c g = go (outcome f c)
+    where
+      both : {h : Farm} {k : Noted} → handed f c ≡ h → noted f c ≡ k → NoneOf n (k .lines) → NoLongerWaits n h → NoneOf n (noted f c .lines) × NoLongerWaits n (handed f c)
+      both p q x y = (subst (λ (k : Noted). NoneOf n (k .lines)) (sym q) x, subst (NoLongerWaits n) (sym p) y)
+
+      go : Outcome f c → NoneOf n (noted f c .lines) × NoLongerWaits n (handed f c)
+      go (stays p q) = both p q tt g
+      go (takes o e k p q) = both p q tt (no-longer-takes o g)
+      go (leaves i k p q) = both p q tt (no-longer-leaves i g k)
+      go (moves t i k p q) = let r = no-longer-moves t g in both p q (r .0) (r .1)
 
 -- No call after it issues a chunk of a job that no longer waits.
 pub issues-no-more : (n : ℕ) (w : History) (cs : List Call) → Inv w → NoLongerWaits n (w .farm) → IssuesNone n (w .farm) cs
@@ -248,95 +250,109 @@ Among x f = List·Memᴰ x (map acceptedOf (waitingOf f))
 among-waits : (x : Accepted) (f : Farm) → Sized f → passesOf f ≡ true → Among x f → Waits x f
 among-waits x f z e m = let r = from-image acceptedOf (waitingOf f) m in waits-as f (r .it) x z e (r .among) (r .image)
 
--- An accepted job waits on over an offer.
-among-takes : (x : Accepted) (f : Farm) (o : Offer) → Sized f → Takes f o → Among x f → Among x (withPlan f (planned f o))
-among-takes x f o z k m =
-    let ws = waitingOf f in
+-- A job of any queue that is walked waits after it, as it was accepted,
+pub among-walks : (x : Accepted) (f : Farm) (u : ℕ) (js : List Job) → List·Memᴰ x (map acceptedOf js) → Among x (withQueue f u (plan (termsOf f) (busyOf f) (byDeadline js)))
+among-walks x f u js m =
+    subst (λ (l : List Job). List·Memᴰ x (map acceptedOf l)) (sym (queue-waits f u (plan (termsOf f) (busyOf f) (byDeadline js)))) (perm-mem (queue-accepted (termsOf f) (busyOf f) js) m)
+
+-- so that an accepted job waits on over an offer.
+among-takes : (x : Accepted) (f : Farm) (o : Offer) → Among x f → Among x (withPlan f (planned f o))
+among-takes x f o m =
     let new = newJob f o ∷ [] in
-    let one : List·Memᴰ x (map acceptedOf (ws ++ new)) = subst (List·Memᴰ x) (sym (map-join acceptedOf ws new)) (mem-left (map acceptedOf new) m) in
-    let two : List·Memᴰ x (map acceptedOf (queueOf f o)) = perm-mem (Permᴰ·map acceptedOf (by-deadline-perm (ws ++ new))) one in
-    subst (λ (l : List Job). List·Memᴰ x (map acceptedOf l)) (sym (queue-waits f (f .used + 1) (planned f o)))
-    (subst (List·Memᴰ x) (sym (plan-accepted (termsOf f) (busyOf f) (queueOf f o))) two)
+    among-walks x f (f .used + 1) (waitingOf f ++ new) (subst (List·Memᴰ x) (sym (map-join acceptedOf (waitingOf f) new)) (mem-left (map acceptedOf new) m))
 
-among-offer : (x : Accepted) (f : Farm) (o : Offer) → Sized f → Among x f → Among x (handed f (offer o))
-among-offer x f o z m =
-    ⊎-elim (λ r. subst (Among x) (sym (r .hands)) m) (λ k. subst (Among x) (sym (k .hands)) (among-takes x f o z k m)) (outcome f (offer o) z)
+-- nothing is not something
+none-some : {A : Type 0} (x : A) {xs : List A} → xs ≡ [] → xs ≡ x ∷ [] → ⊥
+none-some x e h = let n : _≡_ {A = ℕ} 0 1 = ap length (sym e ∙ h) in omega arith
 
--- the job begins by this move
-lifecycle-begins : (x : Accepted) (w : History) (t : ℕ) (ms : List Chunk) (cs : List Call) → Inv w → Moves (w .farm) t ms → List·Memᴰ x (map acceptedOf (begun (w .farm) t)) → Lifecycle x (w .farm) (move t ms ∷ cs)
-lifecycle-begins x w t ms cs i k m =
-    let f = w .farm in
-    let r = from-image acceptedOf (begun f t) m in
-    let j = r .it in
-    let n : j .number ≡ x .number = ap (λ (y : Accepted). y .number) (r .image) in
-    let in′ : List·Memᴰ j (waitingOf f) = perm-mem (Permᴰ·symm (begun-left f t)) (mem-left (left f t) (r .among)) in
-    let by = at-member (λ (b : Job). Waiting f b × (startsBy t b ≡ true)) (r .among) (begun-jobs f (i .sized) (i .passes) t) .1 in
-    let own = lines-own (f .costs) (begun f t) j (front-differ (begun f t) (left f t) (begun-differ f t (i .sized) (i .passes))) (r .among) in
-    begins {c = move t ms} (waits-as f j x (i .sized) (i .passes) in′ (r .image)) (k .says, leb-true (j .booking .start) t by)
-    (ap (linesFor (x .number)) (k .lines) ∙ ap (λ (a : ℕ). linesFor a (issued f t)) (sym n) ∙ own)
-    (issues-no-more (x .number) (note w (move t ms)) cs (note-inv w (move t ms) i)
-    (subst (λ (a : ℕ). NoLongerWaits a (handed f (move t ms))) n (subst (NoLongerWaits (j .number)) (sym (k .hands)) (begun-no-longer-waits f t j (i .sized) (i .passes) (r .among)))))
+-- lists of one are the same where it is
+one-same : {a b : ℕ} → _≡_ {A = List ℕ} (a ∷ []) (b ∷ []) → a ≡ b
+one-same e = ap (λ (l : List ℕ). getD l 0 0) e
 
--- the job waits on over this move
-lifecycle-passes : (x : Accepted) (w : History) (t : ℕ) (ms : List Chunk) (cs : List Call) → Inv w → Moves (w .farm) t ms → List·Memᴰ x (map acceptedOf (left (w .farm) t))
-    → (Among x (handed (w .farm) (move t ms)) → Lifecycle x (handed (w .farm) (move t ms)) cs) → Lifecycle x (w .farm) (move t ms ∷ cs)
-lifecycle-passes x w t ms cs i k m rest =
-    let f = w .farm in
-    let r = from-image acceptedOf (left f t) m in
-    let j = r .it in
-    let n : j .number ≡ x .number = ap (λ (y : Accepted). y .number) (r .image) in
-    let in′ : List·Memᴰ j (waitingOf f) = perm-mem (Permᴰ·symm (begun-left f t)) (mem-right (begun f t) (r .among)) in
-    let late = at-member (λ (b : Job). Waiting f b × (startsAfter t b ≡ true)) (r .among) (keep-all (startsAfter t) (Waiting f) (waitingOf f) (waiting-jobs f (i .sized) (i .passes))) .1 in
-    let none : NoneOf (j .number) (issued f t) =
-    none-of-jobs (f .costs) (j .number) (begun f t) (none-before (begun f t) (left f t) (begun-differ f t (i .sized) (i .passes)) j (r .among)) in
-    passes {c = move t ms} (waits-as f j x (i .sized) (i .passes) in′ (r .image)) (λ q. omega (arith, q .1, leb-false (j .booking .start) t (not-true (startsBy t j) late))) (λ q. q)
-    (subst (λ (a : ℕ). NoneOf a (linesBy f (move t ms))) n (subst (NoneOf (j .number)) (sym (k .lines)) none))
-    (rest (subst (Among x) (sym (k .hands)) (subst (λ (l : List Job). List·Memᴰ x (map acceptedOf l)) (sym (moved-waiting f (i .sized) (i .passes) t)) m)))
+module _ (x : Accepted) (w : History) (c : Call) (cs : List Call) (i : Inv w) where
+  -- the rest of the job's life, where it waits after the call
+  abbrev Rest : Type 0
+  Rest = Among x (handed (w .farm) c) → Lifecycle x (handed (w .farm) c) cs
 
--- the job leaves by this withdrawal
-lifecycle-withdrawn : (x : Accepted) (w : History) (n : ℕ) (cs : List Call) → Inv w → Leaves (w .farm) n → x ≡ acceptedOf (ofNumber n (waitingOf (w .farm))) → Lifecycle x (w .farm) (withdraw n ∷ cs)
-lifecycle-withdrawn x w n cs i l e =
-    let f = w .farm in
-    let in′ : List·Memᴰ (ofNumber n (waitingOf f)) (waitingOf f) = perm-mem (Permᴰ·symm (leaves-others f n (i .sized) (i .passes) (l .has))) (List·Memᴰ·head refl) in
-    let same : n ≡ x .number = sym (ap (λ (y : Accepted). y .number) e ∙ of-number-has n (waitingOf f) (l .has)) in
-    withdrawn {c = withdraw n} (waits-as f (ofNumber n (waitingOf f)) x (i .sized) (i .passes) in′ (sym e)) (l .says, same) tt
-    (issues-no-more (x .number) (note w (withdraw n)) cs (note-inv w (withdraw n) i)
-    (subst (λ (a : ℕ). NoLongerWaits a (handed f (withdraw n))) same (subst (NoLongerWaits n) (sym (l .hands)) (withdrawn-no-longer-waits f n (i .sized) (i .passes) (l .has)))))
+  -- the job waits on over a call that moves no clock, withdraws no job and issues no chunk
+  lifecycle-on : {g : Farm} {k : Noted} → handed (w .farm) c ≡ g → noted (w .farm) c ≡ k → k .times ≡ [] → k .gone ≡ [] → k .lines ≡ [] → Among x (w .farm) → Among x g → Rest
+      → Lifecycle x (w .farm) (c ∷ cs)
+  lifecycle-on h q t g l m n rest =
+      passes {c = c} (among-waits x (w .farm) (i .sized) (i .passes) m) (λ r. none-some (r .time) (ap (λ (y : Noted). y .times) q ∙ t) (r .moves))
+      (λ r. none-some (x .number) (ap (λ (y : Noted). y .gone) q ∙ g) r) (subst (NoneOf (x .number)) (sym (ap (λ (y : Noted). y .lines) q ∙ l)) tt) (rest (subst (Among x) (sym h) n))
 
--- the job waits on over this withdrawal
-lifecycle-stays : (x : Accepted) (w : History) (n : ℕ) (cs : List Call) → Inv w → Leaves (w .farm) n → List·Memᴰ x (map acceptedOf (without n (waitingOf (w .farm)))) → Waits x (w .farm)
-    → (Among x (handed (w .farm) (withdraw n)) → Lifecycle x (handed (w .farm) (withdraw n)) cs) → Lifecycle x (w .farm) (withdraw n ∷ cs)
-lifecycle-stays x w n cs i l m h rest =
-    let f = w .farm in
-    let other : x .number ≡ n → ⊥ =
-    at-member (λ (y : Accepted). y .number ≡ n → ⊥) m (all-image (λ (y : Accepted). y .number ≡ n → ⊥) acceptedOf (without n (waitingOf f)) (others-differ f n (i .sized) (i .passes) (l .has))) in
-    passes {c = withdraw n} h (λ q. q) (λ q. other (sym (q .1))) tt
-    (rest (subst (Among x) (sym (l .hands)) (subst (λ (js : List Job). List·Memᴰ x (map acceptedOf js)) (sym (withdrawn-waiting f n (i .sized) (i .passes) (l .has))) m)))
+  module _ (t : ℕ) (h : handed (w .farm) c ≡ movedFarm (w .farm) t) (q : noted (w .farm) c ≡ moving t (issued (w .farm) t)) where
+    lines-are : noted (w .farm) c .lines ≡ issued (w .farm) t
+    lines-are = ap (λ (y : Noted). y .lines) q
+
+    -- the job begins by this move
+    lifecycle-begins : List·Memᴰ x (map acceptedOf (begun (w .farm) t)) → Lifecycle x (w .farm) (c ∷ cs)
+    lifecycle-begins m =
+        let f = w .farm in
+        let r = from-image acceptedOf (begun f t) m in
+        let j = r .it in
+        let n : j .number ≡ x .number = ap (λ (y : Accepted). y .number) (r .image) in
+        let in′ : List·Memᴰ j (waitingOf f) = perm-mem (Permᴰ·symm (begun-left f t)) (mem-left (left f t) (r .among)) in
+        let by = at-member (λ (b : Job). Waiting f b × (startsBy t b ≡ true)) (r .among) (begun-jobs f (i .sized) (i .passes) t) .1 in
+        let own = lines-own (f .costs) (begun f t) j (front-differ (begun f t) (left f t) (begun-differ f t (i .sized) (i .passes))) (r .among) in
+        begins {c = c} (waits-as f j x (i .sized) (i .passes) in′ (r .image)) (record { time = t; moves = ap (λ (y : Noted). y .times) q; start = leb-true (j .booking .start) t by })
+        (ap (linesFor (x .number)) lines-are ∙ ap (λ (a : ℕ). linesFor a (issued f t)) (sym n) ∙ own)
+        (issues-no-more (x .number) (note w c) cs (note-inv w c i)
+        (subst (λ (a : ℕ). NoLongerWaits a (handed f c)) n (subst (NoLongerWaits (j .number)) (sym h) (begun-no-longer-waits f t j (i .sized) (i .passes) (r .among)))))
+
+    -- the job waits on over this move
+    lifecycle-passes : List·Memᴰ x (map acceptedOf (left (w .farm) t)) → Rest → Lifecycle x (w .farm) (c ∷ cs)
+    lifecycle-passes m rest =
+        let f = w .farm in
+        let r = from-image acceptedOf (left f t) m in
+        let j = r .it in
+        let n : j .number ≡ x .number = ap (λ (y : Accepted). y .number) (r .image) in
+        let in′ : List·Memᴰ j (waitingOf f) = perm-mem (Permᴰ·symm (begun-left f t)) (mem-right (begun f t) (r .among)) in
+        let late = at-member (λ (b : Job). Waiting f b × (startsAfter t b ≡ true)) (r .among) (keep-all (startsAfter t) (Waiting f) (waitingOf f) (waiting-jobs f (i .sized) (i .passes))) .1 in
+        let none : NoneOf (j .number) (issued f t) =
+        none-of-jobs (f .costs) (j .number) (begun f t) (none-before (begun f t) (left f t) (begun-differ f t (i .sized) (i .passes)) j (r .among)) in
+        passes {c = c} (waits-as f j x (i .sized) (i .passes) in′ (r .image))
+        (λ u. let same : t ≡ u .time = one-same (sym (ap (λ (y : Noted). y .times) q) ∙ u .moves) in omega (arith, u .start, leb-false (j .booking .start) t (not-true (startsBy t j) late)))
+        (λ u. none-some (x .number) (ap (λ (y : Noted). y .gone) q) u)
+        (subst (λ (a : ℕ). NoneOf a (noted f c .lines)) n (subst (NoneOf (j .number)) (sym lines-are) none))
+        (rest (subst (Among x) (sym h) (subst (λ (l : List Job). List·Memᴰ x (map acceptedOf l)) (sym (moved-waiting f (i .sized) (i .passes) t)) m)))
+
+  module _ (n : ℕ) (k : Leaves (w .farm) n) (h : handed (w .farm) c ≡ withdrawnFarm (w .farm) n) (q : noted (w .farm) c ≡ withdrawing n) where
+    no-lines : NoneOf (x .number) (noted (w .farm) c .lines)
+    no-lines = subst (NoneOf (x .number)) (sym (ap (λ (y : Noted). y .lines) q)) tt
+
+    -- the job leaves by this withdrawal
+    lifecycle-withdrawn : x ≡ acceptedOf (ofNumber n (waitingOf (w .farm))) → Lifecycle x (w .farm) (c ∷ cs)
+    lifecycle-withdrawn e =
+        let f = w .farm in
+        let in′ : List·Memᴰ (ofNumber n (waitingOf f)) (waitingOf f) = perm-mem (Permᴰ·symm (leaves-others f n (i .sized) (i .passes) (k .has))) (List·Memᴰ·head refl) in
+        let same : n ≡ x .number = sym (ap (λ (y : Accepted). y .number) e ∙ of-number-has n (waitingOf f) (k .has)) in
+        withdrawn {c = c} (waits-as f (ofNumber n (waitingOf f)) x (i .sized) (i .passes) in′ (sym e)) (ap (λ (y : Noted). y .gone) q ∙ ap (λ (a : ℕ). a ∷ []) same) no-lines
+        (issues-no-more (x .number) (note w c) cs (note-inv w c i)
+        (subst (λ (a : ℕ). NoLongerWaits a (handed f c)) same (subst (NoLongerWaits n) (sym h) (withdrawn-no-longer-waits f n (i .sized) (i .passes) (k .has)))))
+
+    -- the job waits on over this withdrawal
+    lifecycle-stays : List·Memᴰ x (map acceptedOf (without n (waitingOf (w .farm)))) → Waits x (w .farm) → Rest → Lifecycle x (w .farm) (c ∷ cs)
+    lifecycle-stays m here rest =
+        let f = w .farm in
+        let other : x .number ≡ n → ⊥ =
+        at-member (λ (y : Accepted). y .number ≡ n → ⊥) m (all-image (λ (y : Accepted). y .number ≡ n → ⊥) acceptedOf (without n (waitingOf f)) (others-differ f n (i .sized) (i .passes) (k .has))) in
+        passes {c = c} here (λ r. none-some (r .time) (ap (λ (y : Noted). y .times) q) (r .moves)) (λ r. other (sym (one-same (sym (ap (λ (y : Noted). y .gone) q) ∙ r)))) no-lines
+        (rest (subst (Among x) (sym h) (subst (λ (js : List Job). List·Memᴰ x (map acceptedOf js)) (sym (withdrawn-waiting f n (i .sized) (i .passes) (k .has))) m)))
+
+  -- over any call
+  lifecycle-step : Among x (w .farm) → Rest → Outcome (w .farm) c → Lifecycle x (w .farm) (c ∷ cs)
+  lifecycle-step m rest (stays h q) = lifecycle-on h q refl refl refl m m rest
+  lifecycle-step m rest (takes o e k h q) = lifecycle-on h q refl refl refl m (among-takes x (w .farm) o m) rest
+  lifecycle-step m rest (leaves n k h q) =
+      ⊎-elim (λ e. lifecycle-withdrawn n k h q e) (λ l. lifecycle-stays n k h q l (among-waits x (w .farm) (i .sized) (i .passes) m) rest)
+      (List·Memᴰ·cases-cons (perm-mem (Permᴰ·map acceptedOf (leaves-others (w .farm) n (i .sized) (i .passes) (k .has))) m))
+  lifecycle-step m rest (moves t n k h q) =
+      ⊎-elim (λ l. lifecycle-begins t h q l) (λ l. lifecycle-passes t h q l rest)
+      (List·Memᴰ·append-cases (map acceptedOf (begun (w .farm) t))
+      (subst (List·Memᴰ x) (map-join acceptedOf (begun (w .farm) t) (left (w .farm) t)) (perm-mem (Permᴰ·map acceptedOf (begun-left (w .farm) t)) m)))
 
 -- Each job that waits is withdrawn, or issued by the first granted clock move to reach the start it has then, and never again.
 pub lifecycle : (x : Accepted) (w : History) (cs : List Call) → Inv w → Among x (w .farm) → Lifecycle x (w .farm) cs
 lifecycle x w [] i m = waits (among-waits x (w .farm) (i .sized) (i .passes) m)
-lifecycle x w (offer o ∷ cs) i m =
-    passes {c = offer o} (among-waits x (w .farm) (i .sized) (i .passes) m) (λ q. q) (λ q. q) tt
-    (lifecycle x (note w (offer o)) cs (note-inv w (offer o) i) (among-offer x (w .farm) o (i .sized) m))
-lifecycle x w (quote o ∷ cs) i m =
-    passes {c = quote o} (among-waits x (w .farm) (i .sized) (i .passes) m) (λ q. q) (λ q. q) tt (lifecycle x (note w (quote o)) cs (note-inv w (quote o) i) m)
-lifecycle x w (withdraw n ∷ cs) i m = go (λ h. lifecycle x (note w (withdraw n)) cs (note-inv w (withdraw n) i) h) (outcome (w .farm) (withdraw n) (i .sized))
-  where
-    here : Waits x (w .farm)
-    here = among-waits x (w .farm) (i .sized) (i .passes) m
-
-    go : (Among x (handed (w .farm) (withdraw n)) → Lifecycle x (handed (w .farm) (withdraw n)) cs) → Refused (w .farm) (withdraw n) ⊎ Leaves (w .farm) n → Lifecycle x (w .farm) (withdraw n ∷ cs)
-    go rest (inl r) = passes {c = withdraw n} here (λ q. q) (λ q. false≢true (sym (r .says) ∙ q .0)) tt (rest (subst (Among x) (sym (r .hands)) m))
-    go rest (inr l) =
-        ⊎-elim (λ e. lifecycle-withdrawn x w n cs i l e) (λ k. lifecycle-stays x w n cs i l k here rest)
-        (List·Memᴰ·cases-cons (perm-mem (Permᴰ·map acceptedOf (leaves-others (w .farm) n (i .sized) (i .passes) (l .has))) m))
-lifecycle x w (move t ms ∷ cs) i m = go (λ h. lifecycle x (note w (move t ms)) cs (note-inv w (move t ms) i) h) (outcome (w .farm) (move t ms) (i .sized))
-  where
-    go : (Among x (handed (w .farm) (move t ms)) → Lifecycle x (handed (w .farm) (move t ms)) cs) → Refused (w .farm) (move t ms) ⊎ Moves (w .farm) t ms → Lifecycle x (w .farm) (move t ms ∷ cs)
-    go rest (inl r) =
-        passes {c = move t ms} (among-waits x (w .farm) (i .sized) (i .passes) m) (λ q. false≢true (sym (r .says) ∙ q .0)) (λ q. q) (subst (NoneOf (x .number)) (sym (r .lines)) tt) (rest (subst (Among x) (sym (r .hands)) m))
-    go rest (inr k) =
-        ⊎-elim (λ h. lifecycle-begins x w t ms cs i k h) (λ h. lifecycle-passes x w t ms cs i k h rest)
-        (List·Memᴰ·append-cases (map acceptedOf (begun (w .farm) t))
-        (subst (List·Memᴰ x) (map-join acceptedOf (begun (w .farm) t) (left (w .farm) t)) (perm-mem (Permᴰ·map acceptedOf (begun-left (w .farm) t)) m)))
+lifecycle x w (c ∷ cs) i m = lifecycle-step x w c cs i m (λ h. lifecycle x (note w c) cs (note-inv w c i) h) (outcome (w .farm) c)

@@ -1,12 +1,11 @@
--- What a call does, where it is no quote: it is refused, it takes a job, it lets one leave, or it moves the clock. A quote does none of these.
+-- What a call does: it changes nothing, as it is refused or only tells; it takes a job; it lets one leave; or it moves the clock. Proofs over calls go by these.
 use mathlib.Core.Path.{_≡_, refl, ap, ap₂, sym, subst, _∙_}
 use mathlib.Core.List.{List, [], _∷_, _++_, map, List·Memᴰ, List·Memᴰ·head, List·Permᴰ·trans, List·Permᴰ·append-comm}
-use mathlib.Core.Bool.{Bool, true, false}
-use mathlib.Core.Logic.{_⊎_, inl, inr}
+use mathlib.Core.Bool.{Bool, true, false, false≢true}
 use Prim.Native.Nat.{ℕ, _+_}
 use borrow.Author.Tests.{eqb-true}
 use lib.Dec.{eqb}
-use lib.ListN.{length, drop}
+use lib.ListN.{length, getD, take, drop}
 use lib.Seq.{take-at}
 use Rattle.lists.specs.Laws.{All, all-map, all-of, perm-all, perm-mem, mem-image, map-join}
 use Rattle.limits.specs.declared.FarmCosts.{FarmCosts}
@@ -20,61 +19,41 @@ use Rattle.planner.specs.Passes.{passesOf}
 use Rattle.walk.specs.Chunks.{lines-each}
 use Rattle.walk.specs.Order.{by-start-perm, by-deadline-perm}
 use Rattle.walk.specs.Plan.{plan-numbers}
-use Rattle.planner.specs.Calls.{granted, hasNumber, ofNumber, computeOf, newJob, queueOf, planned, accepts, withPlan, offerAsked, offerSaid, offerFarm, OfferGranted, withdrawnFarm, withdrawSaid, withdrawFarm}
+use Rattle.planner.specs.Calls.{granted, hasNumber, ofNumber, newJob, queueOf, planned, accepts, withPlan, offerAsked, offerSaid, offerFarm, OfferGranted, withdrawnFarm, withdrawSaid, withdrawFarm}
 use Rattle.planner.specs.OfferSteps.{offer-granted}
 use Rattle.planner.specs.Clock.{startsBy, begun, linesOfAll, issued, movedFarm, moveAsked, moveSaid, moveFarm, moveMemory}
-use Rattle.demands.specs.CallLists.{Call, offer, quote, withdraw, move, handed, isGranted, withStart, linesBy, spansBy, Accepted, jobsBy, goneBy, planBy, timeBy}
+use Rattle.planner.specs.Call.{acceptedFrom}
+use Rattle.planner.specs.CallLaws.{granted-notes, refused-notes, refused-hands}
+use Rattle.demands.specs.CallLists.{Call, offer, quote, withdraw, move, account, Accepted, nothing, accepting, withdrawing, moving, handed, isGranted, noted, withStart}
 use Rattle.lists.specs.Keep.{keep-all}
 use Rattle.queue.specs.Numbers.{numberOfJob, of-number-is, has-number, of-number-has}
 use Rattle.planner.specs.ClockSteps.{MoveGranted, move-granted}
 use Rattle.demands.specs.MovePasses.{waiting-differ}
 
--- a refused call: the farm as it was, and nothing to note
-pub record Refused (f : Farm) (c : Call) : Type 0 where
-  pub says : isGranted f c ≡ false
-  pub hands : handed f c ≡ f
-  pub lines : linesBy f c ≡ []
-  pub jobs : jobsBy f c ≡ []
-  pub gone : goneBy f c ≡ []
-  pub latest : (js : List Job) → planBy f js c ≡ js
-  pub time : (u : ℕ) → timeBy f u c ≡ u
-
 -- the job that a granted offer takes
 abbrev pub taken : Farm → Offer → Accepted
-taken f o = record { number = f .used + 1; show = o .show; size = o .size; compute = computeOf f o; deadline = o .deadline }
+taken f o = acceptedFrom f o (f .used + 1)
 
--- a granted offer: the plan replaces the old one
+-- an offer that is granted: its questions are answered yes, and its walk books all
 pub record Takes (f : Farm) (o : Offer) : Type 0 where
   pub granted : OfferGranted f o
   pub books : accepts f o ≡ true
-  pub says : isGranted f (offer o) ≡ true
-  pub hands : handed f (offer o) ≡ withPlan f (planned f o)
-  pub jobs : jobsBy f (offer o) ≡ taken f o ∷ []
-  pub latest : (js : List Job) → planBy f js (offer o) ≡ planned f o
 
--- a granted withdrawal: a waiting job leaves
+-- a withdrawal that is granted: a waiting job has the number
 pub record Leaves (f : Farm) (n : ℕ) : Type 0 where
   pub passes : passesOf f ≡ true
   pub has : hasNumber n (waitingOf f) ≡ true
-  pub says : isGranted f (withdraw n) ≡ true
-  pub hands : handed f (withdraw n) ≡ withdrawnFarm f n
-  pub gone : goneBy f (withdraw n) ≡ n ∷ []
-
--- a granted clock move: it issues the chunks of the jobs that start by its time
-pub record Moves (f : Farm) (t : ℕ) (m : List Chunk) : Type 0 where
-  pub granted : MoveGranted f t (length m)
-  pub says : isGranted f (move t m) ≡ true
-  pub hands : handed f (move t m) ≡ movedFarm f t
-  pub lines : linesBy f (move t m) ≡ issued f t
-  pub spans : spansBy f (move t m) ≡ spansOfAll (f .costs) (begun f t)
-  pub time : (u : ℕ) → timeBy f u (move t m) ≡ t
 
 -- what a call may do
-abbrev pub Outcome : Farm → Call → Type 0
-Outcome f (offer o) = Refused f (offer o) ⊎ Takes f o
-Outcome f (quote o) = Unit
-Outcome f (withdraw n) = Refused f (withdraw n) ⊎ Leaves f n
-Outcome f (move t m) = Refused f (move t m) ⊎ Moves f t m
+pub data Outcome (f : Farm) (c : Call) : Type 0 where
+  -- it is refused or only tells: the farm as it was, and nothing to note
+  stays : handed f c ≡ f → noted f c ≡ nothing → Outcome f c
+  -- it takes the job of an offer: the plan replaces the old one
+  takes : (o : Offer) → c ≡ offer o → Takes f o → handed f c ≡ withPlan f (planned f o) → noted f c ≡ accepting (taken f o) (planned f o) → Outcome f c
+  -- it lets a waiting job leave
+  leaves : (n : ℕ) → Leaves f n → handed f c ≡ withdrawnFarm f n → noted f c ≡ withdrawing n → Outcome f c
+  -- it moves the clock, and issues the chunks of the jobs that start by its time
+  moves : (t n : ℕ) → MoveGranted f t n → handed f c ≡ movedFarm f t → noted f c ≡ moving t (issued f t) → Outcome f c
 
 -- ---- The lines of a job
 
@@ -106,26 +85,11 @@ begun-found f t z e =
     let all : All P (waitingOf f) = all-of (waitingOf f) (λ j m. of-number-is (waitingOf f) j (waiting-differ f z e) m) in
     all-map (λ j h. h .0) (begun f t) (keep-all (startsBy t) P (byStart (waitingOf f)) (perm-all P (by-start-perm (waitingOf f)) all))
 
--- ---- A clock move
+-- Lines that are issued have the spans of the jobs that begin.
+pub started-issued : (f : Farm) (t : ℕ) → Sized f → passesOf f ≡ true → map (withStart f) (issued f t) ≡ spansOfAll (f .costs) (begun f t)
+started-issued f t z e = started-lines f (f .costs) (begun f t) (begun-found f t z e)
 
-move-moves : (f : Farm) (t : ℕ) (m : List Chunk) → Sized f → MoveGranted f t (length m) → eqb (moveAsked f t (length m)) 0 ≡ true → Moves f t m
-unfolding moveSaid moveFarm moveMemory
-move-moves f t m z g e =
-    let lines : linesBy f (move t m) ≡ issued f t = rw e (take-at (issued f t) (drop (length (issued f t)) m) (length (issued f t)) refl) in
-    record {
-      granted = g;
-      says = rw e;
-      hands = rw e;
-      lines = lines;
-      spans = ap (map (withStart f)) lines ∙ started-lines f (f .costs) (begun f t) (begun-found f t z (g .passes));
-      time = λ u. rw e;
-    }
-
-move-stays : (f : Farm) (t : ℕ) (m : List Chunk) → eqb (moveAsked f t (length m)) 0 ≡ false → Refused f (move t m)
-unfolding moveSaid moveFarm moveMemory
-move-stays f t m e = record { says = rw (e, e); hands = rw e; lines = rw (e, e); jobs = refl; gone = refl; latest = λ js. refl; time = λ u. rw (e, e) }
-
--- ---- An offer
+-- ---- A granted offer
 
 new-number : (f : Farm) (o : Offer) → ofNumber (f .used + 1) (planned f o) .number ≡ f .used + 1
 new-number f o =
@@ -135,58 +99,74 @@ new-number f o =
     of-number-has (f .used + 1) (planned f o)
     (has-number (planned f o) (f .used + 1) (subst (List·Memᴰ (f .used + 1)) (sym (plan-numbers (termsOf f) (busyOf f) (queueOf f o))) (mem-image numberOfJob m)))
 
-offer-takes : (f : Farm) (o : Offer) → OfferGranted f o → eqb (offerAsked f o) 0 ≡ true → accepts f o ≡ true → Takes f o
+-- Its questions are answered yes and its walk books all; its plan replaces the old one, and its job and its plan are noted.
+pub granted-offer : (f : Farm) (o : Offer) → isGranted f (offer o) ≡ true
+    → Takes f o × (handed f (offer o) ≡ withPlan f (planned f o)) × (noted f (offer o) ≡ accepting (taken f o) (planned f o))
 unfolding offerSaid offerFarm
-offer-takes f o g e b = record {
-  granted = g;
-  books = b;
-  says = rw (e, b);
-  hands = rw (e, b);
-  jobs = rw (e, b) (ap (λ (n : ℕ). record { number = n; show = o .show; size = o .size; compute = computeOf f o; deadline = o .deadline } ∷ []) (new-number f o));
-  latest = λ js. rw (e, b);
-}
+granted-offer f o e = go (eqb (offerAsked f o) 0) (accepts f o) refl refl
+  where
+    no : isGranted f (offer o) ≡ false → ⊥
+    no n = false≢true (sym n ∙ e)
 
-offer-stays : (f : Farm) (o : Offer) → eqb (offerAsked f o) 0 ≡ false → Refused f (offer o)
-unfolding offerSaid offerFarm
-offer-stays f o e = record { says = rw (e, e); hands = rw e; lines = refl; jobs = rw (e, e); gone = refl; latest = λ js. rw (e, e); time = λ u. refl }
+    number : eqb (offerAsked f o) 0 ≡ true → accepts f o ≡ true → getD (offerSaid f o .values) 0 0 ≡ f .used + 1
+    number p q = rw (p, q) (new-number f o)
 
-offer-fails : (f : Farm) (o : Offer) → eqb (offerAsked f o) 0 ≡ true → accepts f o ≡ false → Refused f (offer o)
-unfolding offerSaid offerFarm
-offer-fails f o e b = record { says = rw (e, b); hands = rw (e, b); lines = refl; jobs = rw (e, b); gone = refl; latest = λ js. rw (e, b); time = λ u. refl }
+    go : (a b : Bool) → eqb (offerAsked f o) 0 ≡ a → accepts f o ≡ b
+        → Takes f o × (handed f (offer o) ≡ withPlan f (planned f o)) × (noted f (offer o) ≡ accepting (taken f o) (planned f o))
+    go true true p q = (
+      record { granted = offer-granted f o (eqb-true (offerAsked f o) 0 p); books = q },
+      rw (p, q),
+      granted-notes f (offer o) e ∙ ap (λ (n : ℕ). accepting (acceptedFrom f o n) (planned f o)) (number p q),
+    )
+    go true false p q = absurd (no (rw (p, q)))
+    go false b p q = absurd (no (rw (p, p)))
 
--- ---- A withdrawal
+-- ---- A granted withdrawal
 
-withdraw-leaves : (f : Farm) (n : ℕ) → passesOf f ≡ true → hasNumber n (waitingOf f) ≡ true → Leaves f n
+-- A waiting job has the number; the farm is handed back without it, and the number is noted.
+pub granted-withdrawal : (f : Farm) (n : ℕ) → isGranted f (withdraw n) ≡ true → Leaves f n × (handed f (withdraw n) ≡ withdrawnFarm f n) × (noted f (withdraw n) ≡ withdrawing n)
 unfolding withdrawSaid withdrawFarm
-withdraw-leaves f n e h = record { passes = e; has = h; says = rw (e, h); hands = rw (e, h); gone = rw (e, h) }
+granted-withdrawal f n e = go (passesOf f) (hasNumber n (waitingOf f)) refl refl
+  where
+    no : isGranted f (withdraw n) ≡ false → ⊥
+    no h = false≢true (sym h ∙ e)
 
-withdraw-stays : (f : Farm) (n : ℕ) → passesOf f ≡ true → hasNumber n (waitingOf f) ≡ false → Refused f (withdraw n)
-unfolding withdrawSaid withdrawFarm
-withdraw-stays f n e h = record { says = rw (e, h); hands = rw (e, h); lines = refl; jobs = refl; gone = rw (e, h); latest = λ js. refl; time = λ u. refl }
+    number : passesOf f ≡ true → hasNumber n (waitingOf f) ≡ true → getD (withdrawSaid f n .values) 0 0 ≡ n
+    number p q = rw (p, q)
 
-withdraw-fails : (f : Farm) (n : ℕ) → passesOf f ≡ false → Refused f (withdraw n)
-unfolding withdrawSaid withdrawFarm
-withdraw-fails f n e = record { says = rw e; hands = rw e; lines = refl; jobs = refl; gone = rw e; latest = λ js. refl; time = λ u. refl }
+    go : (a b : Bool) → passesOf f ≡ a → hasNumber n (waitingOf f) ≡ b → Leaves f n × (handed f (withdraw n) ≡ withdrawnFarm f n) × (noted f (withdraw n) ≡ withdrawing n)
+    go true true p q = (record { passes = p; has = q }, rw (p, q), granted-notes f (withdraw n) e ∙ ap withdrawing (number p q))
+    go true false p q = absurd (no (rw (p, q)))
+    go false b p q = absurd (no (rw p))
+
+-- ---- A granted clock move
+
+-- Its questions are answered yes; the moved farm is handed back, and its time and the lines of the jobs that begin are noted.
+pub granted-move : (f : Farm) (t : ℕ) (m : List Chunk) → isGranted f (move t m) ≡ true
+    → MoveGranted f t (length m) × (handed f (move t m) ≡ movedFarm f t) × (noted f (move t m) ≡ moving t (issued f t))
+unfolding moveSaid moveFarm moveMemory
+granted-move f t m e = go (eqb (moveAsked f t (length m)) 0) refl
+  where
+    lines : eqb (moveAsked f t (length m)) 0 ≡ true → take (getD (moveSaid f t (length m) .values) 1 0) (moveMemory f t m) ≡ issued f t
+    lines p = rw p (take-at (issued f t) (drop (length (issued f t)) m) (length (issued f t)) refl)
+
+    go : (a : Bool) → eqb (moveAsked f t (length m)) 0 ≡ a → MoveGranted f t (length m) × (handed f (move t m) ≡ movedFarm f t) × (noted f (move t m) ≡ moving t (issued f t))
+    go true p = (move-granted f t (length m) (eqb-true (moveAsked f t (length m)) 0 p), rw p, granted-notes f (move t m) e ∙ ap (moving t) (lines p))
+    go false p = absurd (let n : isGranted f (move t m) ≡ false = rw (p, p) in false≢true (sym n ∙ e))
 
 -- ---- Any call
 
--- A call that is no quote is refused, or takes a job, or lets one leave, or moves the clock.
-pub outcome : (f : Farm) (c : Call) → Sized f → Outcome f c
-outcome f (offer o) k = go (eqb (offerAsked f o) 0) (accepts f o) refl refl
+granted-outcome : (f : Farm) (c : Call) → isGranted f c ≡ true → Outcome f c
+granted-outcome f (offer o) e = let g = granted-offer f o e in takes o refl (g .0) (g .1) (g .2)
+granted-outcome f (quote o) e = stays refl (granted-notes f (quote o) e)
+granted-outcome f (withdraw n) e = let g = granted-withdrawal f n e in leaves n (g .0) (g .1) (g .2)
+granted-outcome f (move t m) e = let g = granted-move f t m e in moves t (length m) (g .0) (g .1) (g .2)
+granted-outcome f (account s) e = stays refl (granted-notes f (account s) e)
+
+-- A call changes nothing, or takes a job, or lets one leave, or moves the clock.
+pub outcome : (f : Farm) (c : Call) → Outcome f c
+outcome f c = go (isGranted f c) refl
   where
-    go : (a b : Bool) → eqb (offerAsked f o) 0 ≡ a → accepts f o ≡ b → Refused f (offer o) ⊎ Takes f o
-    go true true p q = inr (offer-takes f o (offer-granted f o (eqb-true (offerAsked f o) 0 p)) p q)
-    go true false p q = inl (offer-fails f o p q)
-    go false b p q = inl (offer-stays f o p)
-outcome f (quote o) k = tt
-outcome f (withdraw n) k = go (passesOf f) (hasNumber n (waitingOf f)) refl refl
-  where
-    go : (a b : Bool) → passesOf f ≡ a → hasNumber n (waitingOf f) ≡ b → Refused f (withdraw n) ⊎ Leaves f n
-    go true true p q = inr (withdraw-leaves f n p q)
-    go true false p q = inl (withdraw-stays f n p q)
-    go false b p q = inl (withdraw-fails f n p)
-outcome f (move t m) k = go (eqb (moveAsked f t (length m)) 0) refl
-  where
-    go : (a : Bool) → eqb (moveAsked f t (length m)) 0 ≡ a → Refused f (move t m) ⊎ Moves f t m
-    go true p = inr (move-moves f t m k (move-granted f t (length m) (eqb-true (moveAsked f t (length m)) 0 p)) p)
-    go false p = inl (move-stays f t m p)
+    go : (b : Bool) → isGranted f c ≡ b → Outcome f c
+    go true e = granted-outcome f c e
+    go false e = stays (refused-hands f c e) (refused-notes f c e)

@@ -10,7 +10,7 @@ use lib.Seq.{take-add, drop-drop, take-all}
 use Rattle.planner.specs.declared.Farm.{Farm}
 use Rattle.text.specs.Model.{newline}
 use Rattle.search.specs.Model.{this, before, nextPlace}
-use Rattle.lines.specs.Model.{Pending, part, kept, ended, Fed, behind, feed}
+use Rattle.lines.specs.Model.{answeredText, Pending, part, kept, ended, Fed, behind, feed}
 
 -- ---- Blocks
 
@@ -34,7 +34,7 @@ pub feed-append : (f : Farm) (p : Pending) (xs ys : List ℕ)
 unfolding feed
 feed-append f p [] ys = refl
 feed-append f p (b ∷ xs) ys =
-    onward-case (eqb b newline) (ended f p .text) ys _ _ (feed (ended f p .farm) (part []) xs) (feed f (kept p b) xs)
+    onward-case (eqb b newline) (answeredText (ended f p)) ys _ _ (feed (ended f p .farm) (part []) xs) (feed f (kept p b) xs)
     (feed-append (ended f p .farm) (part []) xs ys) (feed-append f (kept p b) xs ys)
 
 -- ---- Up to a newline, and what has none
@@ -52,13 +52,13 @@ feed-rest f p (b ∷ xs) e = go (eqb b newline) e (feed-rest f (kept p b) xs)
   where
     go : (t : Bool) → cond t 0 (suc (before (this newline) xs)) ≡ suc (length xs)
         → (before (this newline) xs ≡ length xs → feed f (kept p b) xs ≡ record { farm = f; pending = keptAll (kept p b) xs; text = [] })
-        → cond t (behind (ended f p .text) (feed (ended f p .farm) (part []) xs)) (feed f (kept p b) xs) ≡ record { farm = f; pending = keptAll (kept p b) xs; text = [] }
+        → cond t (behind (answeredText (ended f p)) (feed (ended f p .farm) (part []) xs)) (feed f (kept p b) xs) ≡ record { farm = f; pending = keptAll (kept p b) xs; text = [] }
     go true e r = absurd (omega arith)
     go false e r = r (omega arith)
 
 -- a line that has ended
 abbrev pub endedFed : Farm → Pending → Fed
-endedFed f p = record { farm = ended f p .farm; pending = part []; text = ended f p .text }
+endedFed f p = record { farm = ended f p .farm; pending = part []; text = answeredText (ended f p) }
 
 -- bytes up to a newline, and the newline, are a line
 pub feed-line : (f : Farm) (p : Pending) (xs : List ℕ) → before (this newline) xs < length xs
@@ -70,7 +70,7 @@ feed-line f p (b ∷ xs) h = go (eqb b newline) refl h (feed-line f (kept p b) x
     go : (t : Bool) → eqb b newline ≡ t → cond t 0 (suc (before (this newline) xs)) < suc (length xs)
         → (before (this newline) xs < length xs → feed f (kept p b) (take (suc (before (this newline) xs)) xs) ≡ endedFed f (keptAll (kept p b) (take (before (this newline) xs) xs)))
         → feed f p (take (suc (cond t 0 (suc (before (this newline) xs)))) (b ∷ xs)) ≡ endedFed f (keptAll p (take (cond t 0 (suc (before (this newline) xs))) (b ∷ xs)))
-    go true e h r = rw e (ap (fedWith (ended f p .farm) (part [])) (append-nil (ended f p .text)))
+    go true e h r = rw e (ap (fedWith (ended f p .farm) (part [])) (append-nil (answeredText (ended f p))))
     go false e h r = rw e (r (omega arith))
 
 -- ---- A stretch of a block

@@ -4,16 +4,17 @@ use Prim.Native.Nat.{ℕ}
 use mathlib.Core.List.{List, [], _∷_, _++_}
 use mathlib.Core.Bool.{Bool, false, cond, not}
 use lib.Dec.{leb, ltb, eqb}
-use lib.ListN.{length, getD, drop}
+use lib.ListN.{length, getD, drop, replicate}
 use Rattle.limits.specs.declared.FarmCosts.{FarmCosts}
 use Rattle.walk.specs.declared.Chunk.{Chunk}
+use Rattle.walk.specs.Model.{noChunk}
 use Rattle.timetable.specs.Model.{rowOf}
 use Rattle.planner.specs.declared.Farm.{Farm}
 use Rattle.answers.specs.declared.ComputeCost.{ComputeCost}
 use Rattle.answers.specs.declared.ComputeCost.the-variants.{Absent, Given}
 use Rattle.answers.specs.declared.Offer.{Offer}
-use Rattle.planner.specs.Calls.{Said, openSaid, openFarm, offerSaid, offerFarm, quoteSaid, accountSaid, withdrawSaid, withdrawFarm}
-use Rattle.planner.specs.Clock.{moveSaid, moveFarm, moveLines}
+use Rattle.planner.specs.Calls.{Said, refused, openSaid, openFarm}
+use Rattle.planner.specs.Call.{Call, offer, quote, withdraw, move, account, reply, handed, noted}
 use Rattle.text.specs.Model.{newline}
 use Rattle.reading.specs.declared.Kind.{Kind}
 use Rattle.reading.specs.declared.Kind.the-variants as kind
@@ -52,16 +53,7 @@ unfoldable pub chunkTexts : List Chunk → List ℕ
 chunkTexts [] = []
 chunkTexts (x ∷ xs) = chunkText x ++ chunkTexts xs
 
--- ---- One line
-
--- the farm after a line, and what is printed
-pub record Answered : Type 0 where
-  pub farm : Farm
-  pub text : List ℕ
-
--- it cannot be read, or not in its turn
-abbrev pub unread : Farm → Answered
-unread f = record { farm = f; text = refusal 11 }
+-- ---- What a line asks for
 
 -- `farm` nodes m p ST SC r, then one allowance a show
 abbrev pub costsIn : List ℕ → FarmCosts
@@ -70,12 +62,6 @@ costsIn ns = record { send = getD ns 1 0; compute = getD ns 2 0; linksetup = get
 abbrev pub allowancesOf : List ℕ → List ℕ
 allowancesOf ns = drop 6 ns
 
-unfoldable pub farmLine : List ℕ → List ℕ → Answered
-farmLine ns al = record {
-  farm = openFarm (getD ns 0 0) (costsIn ns) al;
-  text = answerText (openSaid (getD ns 0 0) (costsIn ns) al);
-}
-
 -- `job` show size deadline [p]: of n numbers the fourth, where there is one, is the compute cost
 abbrev pub computeIn : ℕ → List ℕ → ComputeCost
 computeIn n ns = cond (leb n 3) Absent (Given (getD ns 3 0))
@@ -83,65 +69,85 @@ computeIn n ns = cond (leb n 3) Absent (Given (getD ns 3 0))
 abbrev pub offerIn : ℕ → List ℕ → Offer
 offerIn n ns = record { show = getD ns 0 0; size = getD ns 1 0; deadline = getD ns 2 0; compute = computeIn n ns }
 
-unfoldable pub jobLine : Farm → Offer → Answered
-jobLine f o = record { farm = offerFarm f o; text = answerText (offerSaid f o) }
-
 -- the program lends 1,024 chunk records to a clock move
 abbrev pub lent : ℕ
 lent = 1024
 
--- `clock` time: its `chunk` lines first, then its `clock` line
-unfoldable pub clockLine : Farm → ℕ → Answered
-clockLine f t = record { farm = moveFarm f t lent; text = chunkTexts (moveLines f t lent) ++ answerText (moveSaid f t lent) }
+-- an opening, the call that its n numbers make it, or nothing
+pub data Asks : Type 0 where
+  anOpening : Asks
+  aCall : (ℕ → List ℕ → Call) → Asks
+  noCall : Asks
 
--- `account` show
-unfoldable pub accountLine : Farm → ℕ → Answered
-accountLine f s = record { farm = f; text = answerText (accountSaid f s) }
+-- what a line of a kind asks for: `quote` has the fields of `job`, `clock` a time, `account` a show, `withdraw` a job
+abbrev pub asked : Kind → Asks
+asked kind.Farm = anOpening
+asked kind.Job = aCall (λ n ns. offer (offerIn n ns))
+asked kind.Clock = aCall (λ n ns. move (getD ns 0 0) (replicate lent noChunk))
+asked kind.Account = aCall (λ n ns. account (getD ns 0 0))
+asked kind.Withdraw = aCall (λ n ns. withdraw (getD ns 0 0))
+asked kind.Quote = aCall (λ n ns. quote (offerIn n ns))
+asked kind.Unreadable = noCall
 
--- `withdraw` job
-unfoldable pub withdrawLine : Farm → ℕ → Answered
-withdrawLine f n = record { farm = withdrawFarm f n; text = answerText (withdrawSaid f n) }
-
--- `quote`, with the fields of `job`
-unfoldable pub quoteLine : Farm → Offer → Answered
-quoteLine f o = record { farm = f; text = answerText (quoteSaid f o) }
-
--- a line of a kind is in its turn: `farm` before an opened farm, the others after it
-abbrev pub inTurn : Kind → Bool → Bool
-inTurn kind.Farm opened = not opened
-inTurn kind.Job opened = opened
-inTurn kind.Clock opened = opened
-inTurn kind.Account opened = opened
-inTurn kind.Withdraw opened = opened
-inTurn kind.Quote opened = opened
-inTurn kind.Unreadable opened = false
-
--- the call that a line in its turn is, by its kind, its n numbers and a farm's allowances
-unfoldable pub called : Farm → Kind → ℕ → List ℕ → List ℕ → Answered
-called f kind.Farm n ns al = farmLine ns al
-called f kind.Job n ns al = jobLine f (offerIn n ns)
-called f kind.Clock n ns al = clockLine f (getD ns 0 0)
-called f kind.Account n ns al = accountLine f (getD ns 0 0)
-called f kind.Withdraw n ns al = withdrawLine f (getD ns 0 0)
-called f kind.Quote n ns al = quoteLine f (offerIn n ns)
-called f kind.Unreadable n ns al = unread f
-
--- a call out of its turn cannot be read
-abbrev pub ifInTurn : Farm → Kind → Answered → Answered
-ifInTurn f k x = cond (inTurn k (f .opened)) x (unread f)
-
--- a line of a kind and its numbers
-unfoldable pub recorded : Farm → Kind → List ℕ → Answered
-recorded f k ns = ifInTurn f k (called f k (length ns) ns (allowancesOf ns))
+-- in its turn: an opening before an opened farm, a call after it
+abbrev pub inTurn : Asks → Bool → Bool
+inTurn anOpening opened = not opened
+inTurn (aCall g) opened = opened
+inTurn noCall opened = false
 
 -- at most 1,024 bytes before the newline
 abbrev pub longest : ℕ
 longest = 1024
 
--- a line: a longer one, another shape and an empty one cannot be read
+-- what a line asks for: a longer one, another shape and an empty one cannot be read
+unfoldable pub lineAsks : List ℕ → Asks
+lineAsks bs = cond (leb (length bs) longest) (cond (readable bs) (asked (lineKind bs)) noCall) noCall
+
+-- ---- What it is answered
+
+-- the farm after a line, the chunks that it issues, and what it is told
+pub record Answered : Type 0 where
+  pub farm : Farm
+  pub chunks : List Chunk
+  pub said : Said
+
+-- what is printed: its `chunk` lines first, then its answer
+abbrev pub answeredText : Answered → List ℕ
+answeredText a = chunkTexts (a .chunks) ++ answerText (a .said)
+
+-- it cannot be read, or not in its turn
+abbrev pub unread : Farm → Answered
+unread f = record { farm = f; chunks = []; said = refused 11 }
+
+-- an opening by these numbers and a farm's allowances
+abbrev pub openingWith : List ℕ → List ℕ → Answered
+openingWith ns al = record {
+  farm = openFarm (getD ns 0 0) (costsIn ns) al;
+  chunks = [];
+  said = openSaid (getD ns 0 0) (costsIn ns) al;
+}
+
+-- a call
+abbrev pub called : Farm → Call → Answered
+called f c = record { farm = handed f c; chunks = noted f c .lines; said = reply f c }
+
+-- what is asked for in its turn, by n numbers and a farm's allowances
+abbrev pub answerTo : Farm → Asks → ℕ → List ℕ → List ℕ → Answered
+answerTo f anOpening n ns al = openingWith ns al
+answerTo f (aCall g) n ns al = called f (g n ns)
+answerTo f noCall n ns al = unread f
+
+-- out of its turn it cannot be read
+unfoldable pub answeredAs : Farm → Asks → ℕ → List ℕ → List ℕ → Answered
+answeredAs f a n ns al = cond (inTurn a (f .opened)) (answerTo f a n ns al) (unread f)
+
+-- a line of these numbers that asks for this
+abbrev pub answeredWith : Farm → Asks → List ℕ → Answered
+answeredWith f a ns = answeredAs f a (length ns) ns (allowancesOf ns)
+
+-- a line
 unfoldable pub answered : Farm → List ℕ → Answered
-answered f bs =
-    cond (leb (length bs) longest) (cond (readable bs) (recorded f (lineKind bs) (numbersOf bs)) (unread f)) (unread f)
+answered f bs = answeredWith f (lineAsks bs) (numbersOf bs)
 
 -- ---- Input that comes in blocks
 
@@ -172,10 +178,10 @@ behind t x = record { farm = x .farm; pending = x .pending; text = t ++ x .text 
 -- a newline ends a line
 unfoldable pub feed : Farm → Pending → List ℕ → Fed
 feed f p [] = record { farm = f; pending = p; text = [] }
-feed f p (b ∷ bs) = cond (eqb b newline) (behind (ended f p .text) (feed (ended f p .farm) (part []) bs)) (feed f (kept p b) bs)
+feed f p (b ∷ bs) = cond (eqb b newline) (behind (answeredText (ended f p)) (feed (ended f p .farm) (part []) bs)) (feed f (kept p b) bs)
 
 -- the end of the input: what is pending is a line if it is not empty
 abbrev pub atEnd : Farm → Pending → List ℕ
 atEnd f (part []) = []
-atEnd f (part (b ∷ bs)) = answered f (b ∷ bs) .text
-atEnd f long = unread f .text
+atEnd f (part (b ∷ bs)) = answeredText (answered f (b ∷ bs))
+atEnd f long = answeredText (unread f)

@@ -1,23 +1,28 @@
 -- A line and its row of numbers: the row keeps 33 allowances, and an opening asks no more of them than of all.
 use mathlib.Core.Path.{_≡_, refl, ap, sym, _∙_}
-use mathlib.Core.List.{List, [], _∷_}
+use mathlib.Core.List.{List, [], _∷_, _++_}
 use mathlib.Core.Bool.{Bool, true, false, cond, _&&_, and-false, false≢true}
 use Prim.Native.Nat.{ℕ, zero, suc, _-_, _≤_, _<_, min}
 use native.Mathlib.Omega.{arith}
 use borrow.Author.Tests.{leb-true, leb-false, le-leb, lt-leb}
 use lib.Dec.{leb}
-use lib.ListN.{length, getD, take, drop, replicate, length-take, length-map, getD-replicate}
+use lib.ListN.{length, getD, take, drop, replicate, length-take, length-map, length-replicate, getD-replicate}
 use lib.Seq.{take-all, take-nil, take-at, length-take-le}
 use Rattle.limits.specs.declared.FarmCosts.{FarmCosts}
+use Rattle.walk.specs.declared.Chunk.{Chunk}
+use Rattle.walk.specs.Model.{noChunk}
 use Rattle.planner.specs.declared.Farm.{Farm}
-use Rattle.planner.specs.Calls.{openSaid, openFarm, showsWithin}
+use Rattle.planner.specs.Calls.{Said, openSaid, openFarm, showsWithin}
+use Rattle.planner.specs.Clock.{moveSaid, moveFarm, moveLines}
+use Rattle.planner.specs.Call.{Call, offer, quote, withdraw, move, account, Noted, does, reply}
+use Rattle.planner.specs.CallLaws.{none-noted, move-issues}
 use Rattle.text.specs.Model.{value, padded}
 use Rattle.reading.specs.declared.Row.{Row}
 use Rattle.reading.specs.declared.Kind.{Kind}
 use Rattle.reading.specs.declared.Kind.the-variants as kind
 use Rattle.reading.specs.Model.{fields, othersOf, fits, lineKind, readable, allNumbers, numbersOf, rowWith, rowOf}
 use Rattle.lines.specs.declared.Rest.{Rest}
-use Rattle.lines.specs.Model.{Answered, unread, allowancesOf, farmLine, offerIn, jobLine, clockLine, accountLine, withdrawLine, quoteLine, inTurn, ifInTurn, called, recorded, answered, longest, Pending, part, long}
+use Rattle.lines.specs.Model.{refusal, answerText, chunkTexts, allowancesOf, offerIn, lent, Asks, anOpening, aCall, noCall, asked, inTurn, longest, lineAsks, Answered, answeredText, unread, openingWith, called, answerTo, answeredAs, answeredWith, answered, Pending, part, long}
 
 -- ---- Rows
 
@@ -34,13 +39,9 @@ rowIn long = rowWith kind.Unreadable []
 abbrev pub allowancesIn : Row → List ℕ
 allowancesIn r = take (r .count - 6) (allowancesOf (r .numbers))
 
--- the call that a row in its turn is
-abbrev pub calledBy : Farm → Row → Answered
-calledBy f r = called f (r .kind) (r .count) (r .numbers) (allowancesIn r)
-
 -- the answer of a row
-unfoldable pub byRow : Farm → Row → Answered
-byRow f r = ifInTurn f (r .kind) (calledBy f r)
+abbrev pub byRow : Farm → Row → Answered
+byRow f r = answeredAs f (asked (r .kind)) (r .count) (r .numbers) (allowancesIn r)
 
 -- the row of a farm has its nodes and costs
 abbrev pub FarmRow : Row → Type 0
@@ -105,37 +106,47 @@ row-allowances : (k : Kind) (ns : List ℕ) → allowancesIn (rowWith k ns) ≡ 
 row-allowances k ns =
     sym (drop-take 6 (min 39 (length ns)) (padded 39 ns)) ∙ ap (drop 6) (kept-front 39 ns) ∙ drop-take 6 39 ns
 
-farm-same : (k : Kind) (ns : List ℕ) → farmLine (padded 39 ns) (allowancesIn (rowWith k ns)) ≡ farmLine ns (allowancesOf ns)
-unfolding farmLine
+farm-same : (k : Kind) (ns : List ℕ) → openingWith (padded 39 ns) (allowancesIn (rowWith k ns)) ≡ openingWith ns (allowancesOf ns)
 farm-same k ns =
     rw (row-allowances k ns, kept-at 39 ns 0 (omega arith), kept-at 39 ns 1 (omega arith), kept-at 39 ns 2 (omega arith), kept-at 39 ns 3 (omega arith), kept-at 39 ns 4 (omega arith), kept-at 39 ns 5 (omega arith), open-33, open-farm-33)
 
-row-called : (f : Farm) (k : Kind) (ns : List ℕ) → calledBy f (rowWith k ns) ≡ called f k (length ns) ns (allowancesOf ns)
-unfolding called
-row-called f kind.Farm ns = farm-same kind.Farm ns
-row-called f kind.Job ns = ap (jobLine f) (offer-same ns)
-row-called f kind.Clock ns = ap (clockLine f) (kept-at 39 ns 0 (omega arith))
-row-called f kind.Account ns = ap (accountLine f) (kept-at 39 ns 0 (omega arith))
-row-called f kind.Withdraw ns = ap (withdrawLine f) (kept-at 39 ns 0 (omega arith))
-row-called f kind.Quote ns = ap (quoteLine f) (offer-same ns)
-row-called f kind.Unreadable ns = refl
+-- the call of a row is the call of its line
+abbrev SameCall : Asks → List ℕ → Type 0
+SameCall anOpening ns = Unit
+SameCall (aCall g) ns = g (min 39 (length ns)) (padded 39 ns) ≡ g (length ns) ns
+SameCall noCall ns = Unit
 
-pub row-recorded : (f : Farm) (k : Kind) (ns : List ℕ) → byRow f (rowWith k ns) ≡ recorded f k ns
-unfolding byRow recorded
-row-recorded f k ns = rw (row-called f k ns)
+-- A line of each kind is the call that its row is.
+same-call : (k : Kind) (ns : List ℕ) → SameCall (asked k) ns
+same-call kind.Farm ns = tt
+same-call kind.Job ns = ap offer (offer-same ns)
+same-call kind.Clock ns = ap (λ (t : ℕ). move t (replicate lent noChunk)) (kept-at 39 ns 0 (omega arith))
+same-call kind.Account ns = ap account (kept-at 39 ns 0 (omega arith))
+same-call kind.Withdraw ns = ap withdraw (kept-at 39 ns 0 (omega arith))
+same-call kind.Quote ns = ap quote (offer-same ns)
+same-call kind.Unreadable ns = tt
+
+pub row-answered : (f : Farm) (k : Kind) (ns : List ℕ) → byRow f (rowWith k ns) ≡ answeredWith f (asked k) ns
+unfolding answeredAs
+row-answered f k ns = ap (λ (x : Answered). cond (inTurn (asked k) (f .opened)) x (unread f)) (go (asked k) (same-call k ns))
+  where
+    go : (a : Asks) → SameCall a ns → answerTo f a (min 39 (length ns)) (padded 39 ns) (allowancesIn (rowWith k ns)) ≡ answerTo f a (length ns) ns (allowancesOf ns)
+    go anOpening e = farm-same k ns
+    go (aCall g) e = ap (called f) e
+    go noCall e = refl
 
 pub no-row : (f : Farm) → byRow f (rowWith kind.Unreadable []) ≡ unread f
-unfolding byRow
+unfolding answeredAs
 no-row f = refl
 
 -- A line is answered as its row is.
 pub line-row : (f : Farm) (l : List ℕ) → length l ≤ longest → answered f l ≡ byRow f (rowOf l)
-unfolding answered rowOf
+unfolding answered lineAsks rowOf answeredAs
 line-row f l h = rw (le-leb (length l) longest h) (go (readable l))
   where
-    go : (t : Bool) → cond t (recorded f (lineKind l) (numbersOf l)) (unread f) ≡ byRow f (cond t (rowWith (lineKind l) (numbersOf l)) (rowWith kind.Unreadable []))
-    go true = sym (row-recorded f (lineKind l) (numbersOf l))
-    go false = sym (no-row f)
+    go : (t : Bool) → answeredWith f (cond t (asked (lineKind l)) noCall) (numbersOf l) ≡ byRow f (cond t (rowWith (lineKind l) (numbersOf l)) (rowWith kind.Unreadable []))
+    go true = sym (row-answered f (lineKind l) (numbersOf l))
+    go false = refl
 
 six : (k : Kind) (n : ℕ) (b : Bool) → k ≡ kind.Farm → (fits k n && b) ≡ true → 6 ≤ n
 six k n b e h = go (leb 6 n) refl (rw e at h)
@@ -161,11 +172,36 @@ row-farm (part l) e = go (readable l) refl e
 -- ---- In its turn, and out of it
 
 module _ (f : Farm) (r : Row) where
-  pub row-turn : inTurn (r .kind) (f .opened) ≡ true → byRow f r ≡ calledBy f r
-  unfolding byRow
+  -- It is answered what it asks for.
+  pub row-turn : inTurn (asked (r .kind)) (f .opened) ≡ true → byRow f r ≡ answerTo f (asked (r .kind)) (r .count) (r .numbers) (allowancesIn r)
+  unfolding answeredAs
   row-turn e = rw e
 
   -- out of its turn
-  pub row-unread : inTurn (r .kind) (f .opened) ≡ false → byRow f r ≡ unread f
-  unfolding byRow
+  pub row-unread : inTurn (asked (r .kind)) (f .opened) ≡ false → byRow f r ≡ unread f
+  unfolding answeredAs
   row-unread e = rw e
+
+-- ---- What is printed
+
+-- A line that cannot be read, or not in its turn, prints `no 11`.
+pub unread-text : (f : Farm) → refusal 11 ≡ answeredText (unread f)
+unfolding chunkTexts answerText
+unread-text f = refl
+
+-- An opening prints what it is told,
+pub opening-text : (ns al : List ℕ) {s : Said} → s ≡ openingWith ns al .said → answerText s ≡ answeredText (openingWith ns al)
+unfolding chunkTexts
+opening-text ns al e = ap answerText e
+
+-- and so does a call that issues no chunk.
+pub call-text : (f : Farm) (c : Call) {s : Said} → does f c .notes .lines ≡ [] → s ≡ reply f c → answerText s ≡ answeredText (called f c)
+unfolding chunkTexts
+call-text f c none e = ap answerText e ∙ sym (ap (λ (xs : List Chunk). chunkTexts xs ++ answerText (reply f c)) (none-noted (λ (n : Noted). n .lines) f c none))
+
+-- A clock move that is lent the program's records hands back what a move lent as many does, and issues the lines that it writes.
+pub move-called : (f : Farm) (t : ℕ) → called f (move t (replicate lent noChunk)) ≡ record { farm = moveFarm f t lent; chunks = moveLines f t lent; said = moveSaid f t lent }
+move-called f t =
+    let m : List Chunk = replicate lent noChunk in
+    ap (λ (xs : List Chunk). record { farm = moveFarm f t (length m); chunks = xs; said = moveSaid f t (length m) }) (move-issues f t m)
+    ∙ ap (λ (n : ℕ). record { farm = moveFarm f t n; chunks = moveLines f t n; said = moveSaid f t n }) (length-replicate {A = Chunk} lent noChunk)

@@ -5,7 +5,7 @@ ghost use Prim.Native.Nat.{_≤_};
 ghost use lib.Dec.{leb};
 ghost use lib.ListN.{getD};
 ghost use Rattle.planner.specs.Calls.{Replies, openSaid, openFarm};
-ghost use Rattle.lines.specs.Model.{costsIn, offerIn, inTurn};
+ghost use Rattle.lines.specs.Model.{costsIn, offerIn, asked, inTurn};
 ghost use Rattle.lines.specs.Rows.{allowancesIn};
 use answers::ComputeCost;
 use answers::Offer;
@@ -57,7 +57,7 @@ pub fn offered(row: Row) -> Offer
 
 // Whether a line of this kind is in its turn: `farm` before an opened farm, the others after it.
 pub fn in_turn(kind: Kind, opened: bool) -> bool
-    ensures { λ r. ⌜ r ≡ inTurn kind opened ⌝ }
+    ensures { λ r. ⌜ r ≡ inTurn (asked kind) opened ⌝ }
 {
     match kind {
         Kind::Farm => !opened,

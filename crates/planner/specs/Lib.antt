@@ -1,4 +1,4 @@
--- What a reader must believe is Model, Passes, Calls and Clock; the others are what the functions need and promise each other.
+-- What a reader must believe is Model, Passes, Calls, Clock and Call; the others are what the functions need and promise each other.
 pub mod Model
 pub mod Passes
 pub mod Changes
@@ -9,3 +9,5 @@ pub mod OfferSteps
 pub mod WithdrawSteps
 pub mod Clock
 pub mod ClockSteps
+pub mod Call
+pub mod CallLaws
