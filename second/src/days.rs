@@ -5,7 +5,7 @@
 //! withdrawal after which an old job fails in the next walk, the allowance that is
 //! just used up.
 
-use crate::farm::{Accepted, Farm};
+use crate::farm::{Farm, Offer};
 use crate::limits::*;
 use crate::program::Session;
 use crate::quick::Quick;
@@ -70,15 +70,6 @@ struct Day {
     /// Each show whose account was asked for, and what it held then.
     asked: Vec<(u64, u64)>,
     spelling: Spelling,
-}
-
-/// What an offer takes.
-#[derive(Clone, Copy)]
-struct Offer {
-    show: u64,
-    size: u64,
-    deadline: u64,
-    compute: Option<u64>,
 }
 
 /// The numbers of a `farm` line before its allowances.
@@ -154,15 +145,14 @@ impl Day {
     }
 
     /// An offer with some compute cost or none.
-    fn job(&mut self, show: u64, size: u64, deadline: u64) {
+    fn job_at_some_cost(&mut self, offer: Offer) {
         let compute = self.some_compute();
-        self.job_at(show, size, deadline, compute);
+        self.job(offer.with_compute(compute));
     }
 
-    /// The same; a few are quoted, and meanwhile the farm moves on or no offer
+    /// An offer; a few are quoted, and meanwhile the farm moves on or no offer
     /// follows at all.
-    fn job_at(&mut self, show: u64, size: u64, deadline: u64, compute: Option<u64>) {
-        let offer = Offer::new(show, size, deadline, compute);
+    fn job(&mut self, offer: Offer) {
         if self.quotes_once_in(8) {
             self.quotes(offer);
             if self.random.once_in(2) {
@@ -178,7 +168,7 @@ impl Day {
         if self.quotes_once_in(2) {
             self.quotes(offer);
         }
-        self.spelled(&offer.line(b"job"));
+        self.line(b"job", &offer.fields());
     }
 
     fn clock_to(&mut self, time: u64) {
@@ -249,59 +239,32 @@ impl Day {
     }
 }
 
-impl Offer {
-    fn new(show: u64, size: u64, deadline: u64, compute: Option<u64>) -> Self {
-        Offer {
-            show,
-            size,
-            deadline,
-            compute,
+/// The offer by a deadline that is granted while the tick before it is refused.
+fn by_least(offer: Offer, farm: &Farm<Quick>) -> Option<Offer> {
+    let granted = |deadline| farm.clone().offer(offer.by(deadline)).is_ok();
+    let (mut refused, mut least) = (farm.clock(), LAST_TICK);
+    if !granted(least) {
+        return None;
+    }
+    while refused + 1 < least {
+        let middle = refused + (least - refused) / 2;
+        if granted(middle) {
+            least = middle;
+        } else {
+            refused = middle;
         }
     }
+    Some(offer.by(least))
+}
 
-    /// The line that begins with `job` or `quote`.
-    fn line(self, kind: &[u8]) -> Vec<u8> {
-        let numbers = [self.show, self.size, self.deadline].into_iter();
-        line(kind, &numbers.chain(self.compute).collect::<Vec<u64>>())
+/// The offer by the very tick at which it finishes on few nodes: one, and for
+/// each step about one more.
+fn by_finish(offer: Offer, farm: &Farm<Quick>, steps: u64) -> Option<Offer> {
+    let mut finish = LAST_TICK + 1;
+    for _ in 0..=steps {
+        finish = farm.clone().offer(offer.by(finish - 1)).ok()?.finish;
     }
-
-    fn by(self, deadline: u64) -> Self {
-        Offer { deadline, ..self }
-    }
-
-    fn on(self, farm: &mut Farm<Quick>) -> Option<Accepted> {
-        let Offer { show, size, .. } = self;
-        farm.offer(show, size, self.deadline, self.compute).ok()
-    }
-
-    /// By a deadline that is granted while the tick before it is refused.
-    fn by_least(self, farm: &Farm<Quick>) -> Option<Self> {
-        let granted = |deadline| self.by(deadline).on(&mut farm.clone()).is_some();
-        let (mut refused, mut least) = (farm.clock(), LAST_TICK);
-        if !granted(least) {
-            return None;
-        }
-        while refused + 1 < least {
-            let middle = refused + (least - refused) / 2;
-            if granted(middle) {
-                least = middle;
-            } else {
-                refused = middle;
-            }
-        }
-        Some(self.by(least))
-    }
-
-    /// By the very tick at which it finishes on few nodes: one, and for each
-    /// step about one more.
-    fn by_finish(self, farm: &Farm<Quick>, steps: u64) -> Option<Self> {
-        let mut offer = self.by(LAST_TICK);
-        for _ in 0..=steps {
-            let finish = offer.on(&mut farm.clone())?.finish;
-            offer = self.by(finish - 1);
-        }
-        Some(offer.by(offer.deadline + 1))
-    }
+    Some(offer.by(finish))
 }
 
 // The kinds of day.
@@ -338,10 +301,11 @@ impl Day {
             let wait = r.pick(&[10 * tens, 10 * tens, any]);
             let deadline = self.clock() / 10 * 10 + wait;
             let compute = self.tiny_compute();
+            let offer = Offer::new(show, size, deadline).with_compute(compute);
             match self.random.between(0, 9) {
-                0 => self.job(show, size, deadline),
-                1..=5 => self.job_at(show, size, deadline, compute),
-                6 => self.job_at_the_edge(show, size, compute),
+                0 => self.job_at_some_cost(offer),
+                1..=5 => self.job(offer),
+                6 => self.job_at_the_edge(offer),
                 7 => self.clock_near_a_start(),
                 8 => self.clock_to(self.clock() + size),
                 _ => self.account(show),
@@ -358,7 +322,7 @@ impl Day {
             let show = self.some_show();
             let size = self.random.between(1, 400);
             let compute = self.some_compute();
-            self.job_at_the_edge(show, size, compute);
+            self.job_at_the_edge(Offer::new(show, size, LAST_TICK).with_compute(compute));
             if self.withdraws_once_in(3) {
                 self.withdrawal();
             }
@@ -396,11 +360,12 @@ impl Day {
             let size = self.near(1, MOST_UNITS);
             let deadline = self.near(1, LAST_TICK);
             let compute = self.compute_near_limits();
+            let offer = Offer::new(show, size, deadline).with_compute(compute);
             match self.random.between(0, 11) {
-                0..=4 => self.job_at(show, size, deadline, compute),
-                5 => self.job_at(show, size, LAST_TICK, compute),
-                6 => self.job_at_the_edge(show, size, compute),
-                7 => self.job_at(show, size, self.clock() + size.min(2), compute),
+                0..=4 => self.job(offer),
+                5 => self.job(offer.by(LAST_TICK)),
+                6 => self.job_at_the_edge(offer),
+                7 => self.job(offer.by(self.clock() + size.min(2))),
                 8 => self.clock_near_a_start(),
                 9 => self.clock_to(self.clock() + deadline / 16),
                 10 => self.account(show),
@@ -429,7 +394,7 @@ impl Day {
                 let wait = r.between(horizon / 2, horizon) / 1_000 * 1_000;
                 let size = r.of_any_length(200).max(1);
                 let (deadline, compute) = (self.clock() + wait, self.some_compute());
-                self.offer(Offer::new(show, size, deadline, compute));
+                self.offer(Offer::new(show, size, deadline).with_compute(compute));
                 beyond += u64::from(self.waiting() == MOST_WAITING);
                 if beyond == 10 {
                     break;
@@ -477,7 +442,7 @@ impl Day {
             };
             deadline = own_costs.finish(deadline + size * costs.send_ticks(1), 1);
             let show = self.some_show();
-            self.offer(Offer::new(show, size, deadline, compute));
+            self.offer(Offer::new(show, size, deadline).with_compute(compute));
         }
         let starts = self.starts();
         for back in (1..=self.random.place(4) + 1).rev() {
@@ -585,13 +550,14 @@ impl Day {
         let size = r.of_any_length(600).max(1);
         let used = r.between(1, nodes);
         let wait = r.between(1, 1 + size * ticks_a_unit / used);
+        let offer = Offer::new(show, size, self.clock() + wait);
         let backlog = self.starts().last().map_or(0, |start| start - self.clock());
         match self.random.between(0, 19) {
-            0..=5 => self.job(show, size, self.clock() + wait),
-            6..=11 => self.job(show, size, self.clock() + backlog + wait),
+            0..=5 => self.job_at_some_cost(offer),
+            6..=11 => self.job_at_some_cost(offer.by(offer.deadline + backlog)),
             12 => {
                 let compute = self.some_compute();
-                self.job_at_the_edge(show, size, compute);
+                self.job_at_the_edge(offer.with_compute(compute));
             }
             13..=15 => self.clock_near_a_start(),
             16 => self.clock_to(self.clock() + wait / 8),
@@ -600,25 +566,23 @@ impl Day {
         }
     }
 
-    /// The least deadline granted, and often the tick before it or a compute
-    /// cost just beside.
-    fn job_at_the_edge(&mut self, show: u64, size: u64, compute: Option<u64>) {
-        let offer = Offer::new(show, size, LAST_TICK, compute);
+    /// By the least deadline granted, and often by the tick before it or at a
+    /// compute cost just beside.
+    fn job_at_the_edge(&mut self, offer: Offer) {
         let farm = self.session.farm();
-        let Some(Offer { deadline, .. }) = farm.and_then(|farm| offer.by_least(farm)) else {
-            return self.job_at(show, size, LAST_TICK, compute);
+        let Some(offer) = farm.and_then(|farm| by_least(offer, farm)) else {
+            return self.job(offer.by(LAST_TICK));
         };
         if self.random.once_in(2) {
-            self.job_at(show, size, deadline - 1, compute);
+            self.job(offer.by(offer.deadline - 1));
         }
         if self.mixed && self.random.once_in(4) {
-            let compute = compute.unwrap_or(self.farm_compute());
+            let compute = offer.compute.unwrap_or(self.farm_compute());
             let beside = self.random.pick(&[compute - 1, compute + 1, compute + 1]);
-            self.job_at(show, size, deadline, Some(beside));
+            self.job(offer.with_compute(beside));
         }
-        let later = self.random.pick(&[0, 0, 0, 1, size]);
-        let deadline = (deadline + later).min(LAST_TICK);
-        self.job_at(show, size, deadline, compute);
+        let later = self.random.pick(&[0, 0, 0, 1, offer.size]);
+        self.job(offer.by((offer.deadline + later).min(LAST_TICK)));
     }
 
     /// A move to the start of a waiting job, or just before or behind it.
@@ -677,22 +641,22 @@ impl Day {
 
     /// One figure wrong or several, so that the order of the questions shows.
     fn wrong_job(&mut self) {
-        let (mut show, mut size) = (self.some_show(), 1);
-        let (mut deadline, mut compute) = (LAST_TICK, self.some_compute());
+        let mut offer = Offer::new(self.some_show(), 1, LAST_TICK);
+        offer.compute = self.some_compute();
         let [wrong_show, wrong_size, wrong_compute, wrong_deadline] = self.which_wrong();
         if wrong_show {
-            show = self.wrong_show();
+            offer.show = self.wrong_show();
         }
         if wrong_size {
-            size = self.random.pick(&[0, MOST_UNITS + 1, LONGEST]);
+            offer.size = self.random.pick(&[0, MOST_UNITS + 1, LONGEST]);
         }
         if wrong_compute && self.mixed {
-            compute = Some(self.wrong_compute());
+            offer.compute = Some(self.wrong_compute());
         }
         if wrong_deadline {
-            deadline = self.random.pick(&[0, self.clock(), LAST_TICK + 1]);
+            offer.deadline = self.random.pick(&[0, self.clock(), LAST_TICK + 1]);
         }
-        self.job_at(show, size, deadline, compute);
+        self.job(offer);
     }
 
     /// Of four figures one, two, three or all.
@@ -711,8 +675,8 @@ impl Day {
     }
 
     fn job_too_large(&mut self) {
-        let show = self.some_show();
-        self.job(show, MOST_UNITS, self.clock() + 1);
+        let offer = Offer::new(self.some_show(), MOST_UNITS, self.clock() + 1);
+        self.job_at_some_cost(offer);
     }
 
     /// Lines that come too early, and openings that fail.
@@ -1010,16 +974,16 @@ impl Day {
         let tried = most.map(|units| self.offer_of(units));
         let steps = self.random.between(0, 2);
         let farm = self.session.farm()?;
-        let second = tried[1].by_finish(farm, steps)?;
-        let nodes = second.on(&mut farm.clone())?.nodes;
-        let first = tried[0].by_finish(farm, 0)?;
+        let second = by_finish(tried[1], farm, steps)?;
+        let nodes = farm.clone().offer(second).ok()?.nodes;
+        let first = by_finish(tried[0], farm, 0)?;
         let mut next = farm.clone();
-        let needed = first.on(&mut next)?.job;
-        if second.on(&mut next)?.nodes == nodes {
+        let needed = next.offer(first).ok()?.job;
+        if next.offer(second).ok()?.nodes == nodes {
             return None;
         }
-        let third = tried[2].by_least(&next)?;
-        third.on(&mut next)?;
+        let third = by_least(tried[2], &next)?;
+        next.offer(third).ok()?;
         is_needed(&next, needed).then_some([first, second, third])
     }
 
@@ -1031,7 +995,7 @@ impl Day {
         } else {
             self.some_compute()
         };
-        Offer::new(show, size, LAST_TICK, compute)
+        Offer::new(show, size, LAST_TICK).with_compute(compute)
     }
 
     /// Hardly ever the cause of a refusal by itself.
@@ -1039,10 +1003,11 @@ impl Day {
         let show = self.some_show();
         let size = self.random.between(1, 3);
         let compute = self.tiny_compute();
+        let offer = Offer::new(show, size, LAST_TICK).with_compute(compute);
         match self.random.between(0, 3) {
-            0 => self.job_at_the_edge(show, size, compute),
-            1 => self.job_at(show, size, self.clock() + 20 * size, compute),
-            _ => self.job_at(show, size, LAST_TICK, compute),
+            0 => self.job_at_the_edge(offer),
+            1 => self.job(offer.by(self.clock() + 20 * size)),
+            _ => self.job(offer),
         }
     }
 
@@ -1061,7 +1026,7 @@ impl Day {
                 let show = self.some_show();
                 let r = &mut self.random;
                 let (size, wait) = (r.between(1, 50), r.between(horizon / 2, horizon));
-                self.job(show, size, self.clock() + wait);
+                self.job_at_some_cost(Offer::new(show, size, self.clock() + wait));
             }
         }
         if let Some(job) = needed {
@@ -1082,9 +1047,9 @@ impl Day {
     fn quotes(&mut self, offer: Offer) {
         for _ in 0..self.random.pick(&[0, 0, 0, 1, 2, 3]) {
             let deadline = self.deadline_beside(offer.deadline);
-            self.spelled(&offer.by(deadline).line(b"quote"));
+            self.line(b"quote", &offer.by(deadline).fields());
         }
-        self.spelled(&offer.line(b"quote"));
+        self.line(b"quote", &offer.fields());
     }
 
     fn quote_something(&mut self) {
@@ -1144,8 +1109,8 @@ impl Day {
 
     /// Whatever may stand behind the deadline; some of it can be read.
     fn odd_compute(&mut self) {
-        let offer = Offer::new(self.some_show(), 1, self.clock() + 2_000, None);
-        let mut line = offer.line(self.kind_of_offer());
+        let offer = Offer::new(self.some_show(), 1, self.clock() + 2_000);
+        let mut line = line(self.kind_of_offer(), &offer.fields());
         line.extend_from_slice(self.random.pick(&[
             b"\t".as_slice(),
             b"\t\t",
@@ -1297,8 +1262,8 @@ impl Day {
         match self.random.between(0, 3) {
             0 => farm_line(2, Costs::new(1, 2, 3, 4, 5), &[6, 7]),
             1 => {
-                let offer = Offer::new(show, 1 + time % 9, time + 1_000, compute);
-                offer.line(self.kind_of_offer())
+                let offer = Offer::new(show, 1 + time % 9, time + 1_000).with_compute(compute);
+                line(self.kind_of_offer(), &offer.fields())
             }
             2 => line(b"clock", &[time]),
             _ => line(b"account", &[show]),
@@ -1357,7 +1322,7 @@ impl Day {
 /// last tick comes behind all of them, and fits there unless time is nearly over.
 fn is_needed(farm: &Farm<Quick>, job: u64) -> bool {
     let mut farm = farm.clone();
-    farm.withdraw(job).is_ok() && farm.offer(1, 1, LAST_TICK, None).is_err()
+    farm.withdraw(job).is_ok() && farm.offer(Offer::new(1, 1, LAST_TICK)).is_err()
 }
 
 fn line(kind: &[u8], numbers: &[u64]) -> Vec<u8> {

@@ -1,13 +1,14 @@
 //! Long days, to measure programs on.
 
 use crate::days::farm_numbers;
-use crate::farm::Farm;
+use crate::farm::{Farm, Offer};
 use crate::limits::{LAST_TICK, MOST_DIGITS, MOST_UNITS};
 use crate::program::Session;
 use crate::quick::Quick;
 use crate::random::Random;
 use crate::share::{Costs, Windows};
 use crate::text;
+use std::ops::RangeInclusive;
 
 /// Jobs that wait in a day with a full queue once it is under way.
 const WAITING: usize = 120;
@@ -133,15 +134,14 @@ impl Writer {
     }
 
     /// A line with an offer's fields: `job` or `quote`.
-    fn offer(&mut self, kind: &[u8], fields: [u64; 3], compute: Option<u64>) {
-        let numbers = fields.into_iter().chain(compute);
-        self.line(kind, &numbers.collect::<Vec<u64>>());
+    fn offer(&mut self, kind: &[u8], offer: Offer) {
+        self.line(kind, &offer.fields());
     }
 
-    /// Whether an offer of these would be granted.
-    fn gives(&self, [show, size, deadline]: [u64; 3]) -> bool {
+    /// Whether the offer would be granted.
+    fn gives(&self, offer: Offer) -> bool {
         let farm = self.session.farm().cloned();
-        farm.is_some_and(|mut farm| farm.quote(show, size, deadline, None).is_ok())
+        farm.is_some_and(|mut farm| farm.quote(offer).is_ok())
     }
 
     fn waiting(&self) -> usize {
@@ -194,12 +194,13 @@ impl Queue {
                 compute: own.unwrap_or(farm_costs.compute),
                 ..farm_costs
             };
+            let offer = |deadline| Offer::new(show, size, deadline).with_compute(own);
             for _ in 0..self.quotes {
                 let deadline = (self.deadline)(&mut writer, costs, size);
-                writer.offer(b"quote", [show, size, deadline], own);
+                writer.offer(b"quote", offer(deadline));
             }
             let deadline = (self.deadline)(&mut writer, costs, size);
-            writer.offer(b"job", [show, size, deadline], own);
+            writer.offer(b"job", offer(deadline));
         }
         writer.day
     }
@@ -267,18 +268,17 @@ fn same_walks() -> [LongDay; 3] {
     let mut quoted = all_but_one("the same as quotes, refused, full queue");
     let mut given = all_but_one("the same as quotes, given, full queue");
     let most = most_units(&refused, LAST_DEADLINE);
-    refused.offer(b"job", [1, most, LAST_DEADLINE], None);
-    quoted.offer(b"job", [1, most, LAST_DEADLINE], None);
+    let last = Offer::new(1, most, LAST_DEADLINE);
+    refused.offer(b"job", last);
+    quoted.offer(b"job", last);
     // With time to spare.
-    given.offer(b"job", [1, most - most / 16, LAST_DEADLINE], None);
+    given.offer(b"job", Offer::new(1, most - most / 16, LAST_DEADLINE));
     while refused.day.lines < QUEUE_LINES {
-        let r = &mut refused.random;
-        let (show, size) = (r.between(1, 8), r.between(20, 400));
-        let fields = [show, size, r.between(100_000, 290_000)];
-        if !refused.gives(fields) && given.gives(fields) {
-            refused.offer(b"job", fields, None);
-            quoted.offer(b"quote", fields, None);
-            given.offer(b"quote", fields, None);
+        let offer = some_offer(&mut refused.random, 100_000..=290_000);
+        if !refused.gives(offer) && given.gives(offer) {
+            refused.offer(b"job", offer);
+            quoted.offer(b"quote", offer);
+            given.offer(b"quote", offer);
         }
     }
     [refused.day, quoted.day, given.day]
@@ -288,19 +288,26 @@ fn same_walks() -> [LongDay; 3] {
 fn all_but_one(name: &'static str) -> Writer {
     let mut writer = Writer::new(name, COSTS);
     while writer.waiting() + 1 < WAITING {
-        let r = &mut writer.random;
-        let (show, size) = (r.between(1, 8), r.between(20, 400));
-        let fields = [show, size, r.between(300_000, 900_000)];
-        writer.offer(b"job", fields, None);
+        let offer = some_offer(&mut writer.random, 300_000..=900_000);
+        writer.offer(b"job", offer);
     }
     writer
+}
+
+fn some_offer(random: &mut Random, deadlines: RangeInclusive<u64>) -> Offer {
+    let (show, size) = (random.between(1, 8), random.between(20, 400));
+    Offer::new(
+        show,
+        size,
+        random.between(*deadlines.start(), *deadlines.end()),
+    )
 }
 
 /// The most units of a job behind all others.
 fn most_units(writer: &Writer, deadline: u64) -> u64 {
     let bits = (0..MOST_UNITS.ilog2()).rev().map(|bit| 1 << bit);
     bits.fold(0, |most, bit| {
-        if writer.gives([1, most + bit, deadline]) {
+        if writer.gives(Offer::new(1, most + bit, deadline)) {
             most + bit
         } else {
             most
@@ -316,10 +323,10 @@ fn short_lines(lines: usize) -> LongDay {
         match writer.random.between(0, 9) {
             0..=3 => writer.line(b"account", &[show]),
             4..=6 => writer.line(b"clock", &[clock + show]),
-            7 => writer.line(b"job", &[show, MOST_UNITS, clock + 9]),
+            7 => writer.offer(b"job", Offer::new(show, MOST_UNITS, clock + 9)),
             8 => writer.line(b"account", &[show + 8]),
             _ if writer.starts().len() < 4 => {
-                writer.line(b"job", &[show, show, clock + 5_000]);
+                writer.offer(b"job", Offer::new(show, show, clock + 5_000));
             }
             _ => writer.line(b"clock", &[]),
         }
@@ -333,7 +340,7 @@ fn catalogue(lines: usize) -> LongDay {
     let mut writer = Writer::new("long numbers, few jobs waiting", COSTS);
     while writer.day.lines < lines {
         let (show, clock) = (writer.random.between(1, 8), writer.clock());
-        let fields = [show, 9 * show, clock + 5_000];
+        let fields = Offer::new(show, 9 * show, clock + 5_000).fields();
         match (writer.random.between(0, 29), &writer.numbers()[..]) {
             (0..=21, _) => writer.line_of_long_numbers(b"account", &[show]),
             (22..=26, _) => writer.line_of_long_numbers(b"clock", &[clock + 90 * show]),
@@ -352,7 +359,7 @@ fn long_runs(lines: usize) -> LongDay {
         let (show, clock) = (writer.random.between(1, 8), writer.clock());
         match writer.random.between(0, 3) {
             0 => writer.line(b"clock", &[clock + 90 * show]),
-            1 => writer.line(b"job", &[show, 9 * show, clock + 5_000]),
+            1 => writer.offer(b"job", Offer::new(show, 9 * show, clock + 5_000)),
             _ => writer.line(b"account", &[show]),
         }
         let r = &mut writer.random;

@@ -1,6 +1,6 @@
 //! The program: lines in, answers out.
 
-use crate::farm::Farm;
+use crate::farm::{Accepted, Farm, Offer};
 use crate::job::{Record, Walk};
 use crate::limits::{LENT_RECORDS, MOST_LINE_BYTES};
 use crate::quick::Quick;
@@ -54,23 +54,17 @@ impl<W: Walk> Session<W> {
                 text::print(answers, b"open", &[nodes, farm.show_count()]);
                 self.farm = Some(farm);
             }
-            (b"job" | b"quote", &[show, size, deadline, ref rest @ ..], Some(farm))
-                if rest.len() <= 1 =>
-            {
-                let compute = rest.first().copied();
-                let (word, given) = if kind == b"quote" {
-                    (kind, farm.quote(show, size, deadline, compute)?)
-                } else {
-                    (&b"yes"[..], farm.offer(show, size, deadline, compute)?)
-                };
-                let fields = [given.job, given.start, given.finish, given.nodes as u64];
-                text::print(answers, word, &fields);
+            (b"job", fields, Some(farm)) => {
+                let accepted = farm.offer(read_offer(fields)?)?;
+                print_accepted(answers, b"yes", accepted);
+            }
+            (b"quote", fields, Some(farm)) => {
+                let accepted = farm.quote(read_offer(fields)?)?;
+                print_accepted(answers, b"quote", accepted);
             }
             (b"clock", &[time], Some(farm)) => {
                 let issued = farm.move_clock(time, &mut self.timetable)?;
-                for record in &self.timetable[..issued] {
-                    print_record(answers, record);
-                }
+                print_chunks(answers, &self.timetable[..issued]);
                 text::print(answers, b"clock", &[time, issued as u64]);
             }
             (b"withdraw", &[job], Some(farm)) => {
@@ -96,18 +90,31 @@ impl<W: Walk> Session<W> {
     }
 }
 
-fn print_record(answers: &mut Vec<u8>, record: &Record) {
-    let fields = [
-        record.job,
-        record.show,
-        record.node,
-        record.units,
-        record.send_start,
-        record.send_end,
-        record.finish,
-        record.compute_end,
-    ];
-    text::print(answers, b"chunk", &fields);
+fn read_offer(fields: &[u64]) -> Result<Offer, Refusal> {
+    Offer::from_fields(fields).ok_or(Refusal::Unreadable)
+}
+
+/// An offer and a quote are answered alike but for the word.
+fn print_accepted(answers: &mut Vec<u8>, word: &[u8], accepted: Accepted) {
+    let nodes = accepted.nodes as u64;
+    let fields = [accepted.job, accepted.start, accepted.finish, nodes];
+    text::print(answers, word, &fields);
+}
+
+fn print_chunks(answers: &mut Vec<u8>, records: &[Record]) {
+    for record in records {
+        let fields = [
+            record.job,
+            record.show,
+            record.node,
+            record.units,
+            record.send_start,
+            record.send_end,
+            record.finish,
+            record.compute_end,
+        ];
+        text::print(answers, b"chunk", &fields);
+    }
 }
 
 /// Cuts blocks of bytes into lines and answers them.

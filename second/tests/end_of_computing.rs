@@ -5,7 +5,7 @@ mod common;
 use common::{check, tabs};
 use second::days::{day, tiny_day};
 use second::exhaustive::Exhaustive;
-use second::farm::Farm;
+use second::farm::{Farm, Offer};
 use second::job::{Record, Walk};
 use second::limits::*;
 use second::program::{run, Session};
@@ -192,8 +192,8 @@ fn record(numbers: [u64; 8]) -> Record {
 #[test]
 fn chunks_are_shown_as_they_are_issued() {
     let mut farm = Farm::<Quick>::open(2, Costs::new(2, 3, 10, 20, 5), &[0]).unwrap();
-    farm.offer(1, 4, 69, None).unwrap();
-    farm.offer(1, 1, 94, Some(1)).unwrap();
+    farm.offer(Offer::new(1, 4, 69)).unwrap();
+    farm.offer(Offer::new(1, 1, 94).with_compute(1)).unwrap();
     let former = record([9; 8]);
     let expected = [
         record([1, 1, 1, 3, 0, 16, 60, 45]),
@@ -236,7 +236,8 @@ fn issued_by_own_cost<W: Walk>(seed: u64, most_units: u64) -> usize {
         let own = random.between(1, 18);
         let compute = random.once_in(2).then_some(own);
         let (size, wait) = (random.between(1, most_units), random.between(10, 150));
-        if farm.offer(1, size, farm.clock() + wait, compute).is_ok() {
+        let offer = Offer::new(1, size, farm.clock() + wait).with_compute(compute);
+        if farm.offer(offer).is_ok() {
             computes.push(compute.unwrap_or(p));
         }
         let mut shown = [Record::default(); LENT_RECORDS];

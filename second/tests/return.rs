@@ -5,7 +5,7 @@ mod common;
 use common::{check, tabs};
 use second::days::{day, tiny_day};
 use second::exhaustive::Exhaustive;
-use second::farm::Farm;
+use second::farm::{Farm, Offer};
 use second::job::Record;
 use second::limits::*;
 use second::program::{answers, run, Session};
@@ -239,10 +239,11 @@ fn lines_take_what_the_costs_say() {
     let mut lines = [Record::default(); LENT_RECORDS];
     // By job number, from 1.
     let mut computes = vec![0];
-    for offer in 0..200 {
-        let compute = (offer % 3 > 0).then_some(1 + offer * 7 % 45);
-        let deadline = farm.clock() + 200 + offer * 37 % 500;
-        if farm.offer(1, 1 + offer % 9, deadline, compute).is_ok() {
+    for turn in 0..200 {
+        let compute = (turn % 3 > 0).then_some(1 + turn * 7 % 45);
+        let deadline = farm.clock() + 200 + turn * 37 % 500;
+        let offer = Offer::new(1, 1 + turn % 9, deadline).with_compute(compute);
+        if farm.offer(offer).is_ok() {
             computes.push(compute.unwrap_or(costs.compute));
         }
         let count = farm.show_waiting(&mut lines).unwrap();
@@ -253,7 +254,7 @@ fn lines_take_what_the_costs_say() {
                 && line.compute_end == compute_end
                 && line.finish == compute_end + line.units * 11
         }));
-        if offer % 4 == 0 {
+        if turn % 4 == 0 {
             let time = farm.clock() + 80;
             farm.move_clock(time, &mut lines).unwrap();
         }

@@ -3,7 +3,7 @@
 
 use second::days::{day, tiny_day};
 use second::exhaustive::Exhaustive;
-use second::farm::Farm;
+use second::farm::{Farm, Offer};
 use second::job::{Begun, Booking, Chunk, Job, Plan, Record, Walk, Walked};
 use second::node::FreeNode;
 use second::program::{answers, run};
@@ -42,8 +42,9 @@ fn tiny_farms_show_the_same_timetables() {
             let deadline = quick.clock() + random.between(1, 45);
             let own = random.between(1, 8);
             let compute = random.once_in(2).then_some(own);
-            let yes = quick.offer(1, size, deadline, compute);
-            assert_eq!(yes, exhaustive.offer(1, size, deadline, compute));
+            let offer = Offer::new(1, size, deadline).with_compute(compute);
+            let yes = quick.offer(offer);
+            assert_eq!(yes, exhaustive.offer(offer));
             granted += u64::from(yes.is_ok());
             assert_eq!(waiting(&quick), waiting(&exhaustive), "seed {seed}");
             if random.once_in(4) {

@@ -5,7 +5,7 @@ mod common;
 use common::{check, tabs};
 use second::days::{day, tiny_day};
 use second::exhaustive::Exhaustive;
-use second::farm::Farm;
+use second::farm::{Farm, Offer};
 use second::job::{Begun, Job, Plan, Record, Walk, Walked};
 use second::limits::*;
 use second::program::{run, Session};
@@ -193,29 +193,30 @@ fn a_withdrawal_needs_a_farm_and_one_number() {
 #[test]
 fn a_withdrawal_makes_room_in_a_full_queue() {
     let mut farm = Farm::<Quick>::open(2, Costs::new(1, 1, 0, 0, 0), &[0]).unwrap();
+    let unit = Offer::new(1, 1, 1_000);
     for _ in 0..MOST_WAITING {
-        farm.offer(1, 1, 1_000, None).unwrap();
+        farm.offer(unit).unwrap();
     }
     let full = Err(Refusal::QueueFull);
-    assert_eq!(farm.offer(1, 1, 1_000, None), full);
+    assert_eq!(farm.offer(unit), full);
     assert_eq!(farm.withdraw(129), Err(Refusal::NotWaiting));
-    assert_eq!(farm.offer(1, 1, 1_000, None), full);
+    assert_eq!(farm.offer(unit), full);
     assert_eq!(farm.withdraw(64), Ok(()));
     assert_eq!(farm.starts().last(), Some(127));
-    let yes = farm.offer(1, 1, 1_000, None).unwrap();
+    let yes = farm.offer(unit).unwrap();
     assert_eq!((yes.job, yes.start, yes.finish), (129, 127, 129));
-    assert_eq!(farm.offer(1, 1, 1_000, None), full);
+    assert_eq!(farm.offer(unit), full);
     // With room again the walk answers.
     assert_eq!(farm.withdraw(129), Ok(()));
     let refused = Err(Refusal::NotBookable);
-    assert_eq!(farm.offer(1, 1_000, 1_000, None), refused);
-    assert_eq!(farm.offer(1, 1, 1_000, None).unwrap().job, 130);
+    assert_eq!(farm.offer(Offer::new(1, 1_000, 1_000)), refused);
+    assert_eq!(farm.offer(unit).unwrap().job, 130);
     // All may go, and then all start anew.
     for job in (1..=130).filter(|job| ![64, 129].contains(job)) {
         assert_eq!(farm.withdraw(job), Ok(()));
     }
     assert_eq!(farm.waiting(), 0);
-    let yes = farm.offer(1, 1, 1_000, None).unwrap();
+    let yes = farm.offer(unit).unwrap();
     assert_eq!((yes.job, yes.start, yes.finish), (131, 0, 2));
 }
 
@@ -248,7 +249,7 @@ fn nothing_else_changes() {
             let deadline = farm.clock() + random.between(50, 3_000);
             let size = random.between(1, 60);
             // Many are refused; that leaves the farm as it is.
-            let _ = farm.offer(random.between(1, 2), size, deadline, None);
+            let _ = farm.offer(Offer::new(random.between(1, 2), size, deadline));
             if random.once_in(5) {
                 let time = farm.clock() + random.between(0, 200);
                 let mut lines = [Record::default(); LENT_RECORDS];
