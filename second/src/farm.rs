@@ -133,7 +133,7 @@ impl<W: Walk> Farm<W> {
     /// walk's own memory is written.
     pub fn quote(&mut self, offer: Offer) -> Result<Accepted, Refusal> {
         let new = self.new_job(offer)?;
-        let booked = self.walk.book(&self.begun, &self.plan, new);
+        let booked = self.walk.book(&self.begun, self.plan.queue(Some(new)));
         ask(booked, Refusal::NotBookable)?;
         let (booking, chunks) = self.walk.walked().booking_of(new);
         let finish = chunks.iter().map(|chunk| chunk.free.time()).max();

@@ -6,7 +6,7 @@ use common::{check, tabs};
 use second::days::{day, tiny_day};
 use second::exhaustive::Exhaustive;
 use second::farm::{Farm, Offer};
-use second::job::{Begun, Job, Plan, Record, Walk, Walked};
+use second::job::{Begun, Plan, Queue, Record, Walk, Walked};
 use second::limits::*;
 use second::program::{run, Session};
 use second::quick::{Quick, Whole};
@@ -299,9 +299,9 @@ thread_local! {
 struct Counting(Quick);
 
 impl Walk for Counting {
-    fn book(&mut self, begun: &Begun, plan: &Plan, new: Job) -> bool {
-        let booked = self.0.book(begun, plan, new);
-        if !booked && !old_jobs_walk(begun, plan) {
+    fn book(&mut self, begun: &Begun, queue: Queue) -> bool {
+        let booked = self.0.book(begun, queue);
+        if !booked && !old_jobs_walk(begun, queue.plan) {
             IN_VAIN.set(IN_VAIN.get() + 1);
         }
         booked
@@ -312,19 +312,21 @@ impl Walk for Counting {
     }
 }
 
-/// Whether the waiting jobs alone can be walked: each is offered behind those
-/// before it, as in a walk.
+/// Whether the waiting jobs alone can be walked. Offering each behind those before it
+/// must come to the same.
 fn old_jobs_walk(begun: &Begun, plan: &Plan) -> bool {
     let mut anew = Plan::default();
     let mut walk = Whole::default();
     let mut jobs = plan.bookings.iter().map(|booking| booking.job);
-    jobs.all(|job| {
-        let booked = walk.book(begun, &anew, job);
+    let one_by_one = jobs.all(|job| {
+        let booked = walk.book(begun, anew.queue(Some(job)));
         if booked {
             anew.follow(walk.walked());
         }
         booked
-    })
+    });
+    assert_eq!(walk.book(begun, plan.queue(None)), one_by_one);
+    one_by_one
 }
 
 /// Offers in vain on a day.
