@@ -12,7 +12,7 @@ use crate::quick::Quick;
 use crate::random::Random;
 use crate::share::Costs;
 use crate::spelling::Spelling;
-use crate::text;
+use crate::text::{line, read_line};
 use std::ops::Range;
 
 /// The kinds of day, in turn.
@@ -199,31 +199,8 @@ impl Day {
         self.bytes
     }
 
-    fn clock(&self) -> u64 {
-        self.session.farm().map_or(0, Farm::clock)
-    }
-
-    fn waiting(&self) -> usize {
-        self.session.farm().map_or(0, Farm::waiting)
-    }
-
-    fn starts(&self) -> Vec<u64> {
-        let farm = self.session.farm();
-        farm.map_or_else(Vec::new, |farm| farm.starts().collect())
-    }
-
-    /// The waiting jobs' numbers.
-    fn numbers(&self) -> Vec<u64> {
-        let farm = self.session.farm();
-        farm.map_or_else(Vec::new, |farm| farm.numbers().collect())
-    }
-
-    fn numbers_used(&self) -> u64 {
-        self.session.farm().map_or(0, Farm::numbers_used)
-    }
-
     fn some_show(&mut self) -> u64 {
-        let shows = self.session.farm().map_or(1, Farm::show_count);
+        let shows = self.session.show_count().max(1);
         self.random.between(1, shows)
     }
 
@@ -299,7 +276,7 @@ impl Day {
             let (size, tens) = (r.between(1, 7), r.between(1, most_tens));
             let any = r.between(2, 10 * most_tens);
             let wait = r.pick(&[10 * tens, 10 * tens, any]);
-            let deadline = self.clock() / 10 * 10 + wait;
+            let deadline = self.session.clock() / 10 * 10 + wait;
             let compute = self.tiny_compute();
             let offer = Offer::new(show, size, deadline).with_compute(compute);
             match self.random.between(0, 9) {
@@ -307,7 +284,7 @@ impl Day {
                 1..=5 => self.job(offer),
                 6 => self.job_at_the_edge(offer),
                 7 => self.clock_near_a_start(),
-                8 => self.clock_to(self.clock() + size),
+                8 => self.clock_to(self.session.clock() + size),
                 _ => self.account(show),
             }
         }
@@ -357,17 +334,17 @@ impl Day {
                 continue;
             }
             let show = self.some_show();
-            let size = self.near(1, MOST_UNITS);
-            let deadline = self.near(1, LAST_TICK);
+            let size = self.random.near(1, MOST_UNITS);
+            let deadline = self.random.near(1, LAST_TICK);
             let compute = self.compute_near_limits();
             let offer = Offer::new(show, size, deadline).with_compute(compute);
             match self.random.between(0, 11) {
                 0..=4 => self.job(offer),
                 5 => self.job(offer.by(LAST_TICK)),
                 6 => self.job_at_the_edge(offer),
-                7 => self.job(offer.by(self.clock() + size.min(2))),
+                7 => self.job(offer.by(self.session.clock() + size.min(2))),
                 8 => self.clock_near_a_start(),
-                9 => self.clock_to(self.clock() + deadline / 16),
+                9 => self.clock_to(self.session.clock() + deadline / 16),
                 10 => self.account(show),
                 _ => self.stray(),
             }
@@ -393,9 +370,9 @@ impl Day {
                 let r = &mut self.random;
                 let wait = r.between(horizon / 2, horizon) / 1_000 * 1_000;
                 let size = r.of_any_length(200).max(1);
-                let (deadline, compute) = (self.clock() + wait, self.some_compute());
+                let (deadline, compute) = (self.session.clock() + wait, self.some_compute());
                 self.offer(Offer::new(show, size, deadline).with_compute(compute));
-                beyond += u64::from(self.waiting() == MOST_WAITING);
+                beyond += u64::from(self.session.waiting() == MOST_WAITING);
                 if beyond == 10 {
                     break;
                 }
@@ -408,7 +385,11 @@ impl Day {
                 self.clock_near_a_start();
             }
         }
-        let last = self.starts().last().map_or(self.clock(), |&start| start);
+        let last = self
+            .session
+            .starts()
+            .last()
+            .map_or(self.session.clock(), |&start| start);
         self.clock_to(last);
         self.accounts();
     }
@@ -444,7 +425,7 @@ impl Day {
             let show = self.some_show();
             self.offer(Offer::new(show, size, deadline).with_compute(compute));
         }
-        let starts = self.starts();
+        let starts = self.session.starts();
         for back in (1..=self.random.place(4) + 1).rev() {
             self.clock_to(deadline);
             let place = starts.len().saturating_sub(back);
@@ -550,8 +531,12 @@ impl Day {
         let size = r.of_any_length(600).max(1);
         let used = r.between(1, nodes);
         let wait = r.between(1, 1 + size * ticks_a_unit / used);
-        let offer = Offer::new(show, size, self.clock() + wait);
-        let backlog = self.starts().last().map_or(0, |start| start - self.clock());
+        let offer = Offer::new(show, size, self.session.clock() + wait);
+        let backlog = self
+            .session
+            .starts()
+            .last()
+            .map_or(0, |start| start - self.session.clock());
         match self.random.between(0, 19) {
             0..=5 => self.job_at_some_cost(offer),
             6..=11 => self.job_at_some_cost(offer.by(offer.deadline + backlog)),
@@ -560,7 +545,7 @@ impl Day {
                 self.job_at_the_edge(offer.with_compute(compute));
             }
             13..=15 => self.clock_near_a_start(),
-            16 => self.clock_to(self.clock() + wait / 8),
+            16 => self.clock_to(self.session.clock() + wait / 8),
             17 | 18 => self.account(show),
             _ => self.stray(),
         }
@@ -587,9 +572,9 @@ impl Day {
 
     /// A move to the start of a waiting job, or just before or behind it.
     fn clock_near_a_start(&mut self) {
-        let starts = self.starts();
+        let starts = self.session.starts();
         if starts.is_empty() {
-            return self.clock_to(self.clock());
+            return self.clock_to(self.session.clock());
         }
         let soon = self.random.place(starts.len().min(9));
         let time = starts[soon] + self.random.between(0, 2);
@@ -597,8 +582,7 @@ impl Day {
     }
 
     fn accounts(&mut self) {
-        let shows = self.session.farm().map_or(0, Farm::show_count);
-        for show in 1..=shows {
+        for show in 1..=self.session.show_count() {
             self.account(show);
         }
     }
@@ -611,7 +595,7 @@ impl Day {
             }
             let show = self.some_show();
             match self.random.between(0, 9) {
-                0 => self.clock_to(self.clock() + show),
+                0 => self.clock_to(self.session.clock() + show),
                 1 => self.stray(),
                 _ => self.account(show),
             }
@@ -620,7 +604,7 @@ impl Day {
 
     /// A line that is refused, or at least odd.
     fn stray(&mut self) {
-        let clock = self.clock();
+        let clock = self.session.clock();
         let wrong_show = self.wrong_show();
         let r = &mut self.random;
         let wrong_time = r.pick(&[clock.wrapping_sub(1).min(LAST_TICK + 1), LAST_TICK + 1]);
@@ -654,7 +638,7 @@ impl Day {
             offer.compute = Some(self.wrong_compute());
         }
         if wrong_deadline {
-            offer.deadline = self.random.pick(&[0, self.clock(), LAST_TICK + 1]);
+            offer.deadline = self.random.pick(&[0, self.session.clock(), LAST_TICK + 1]);
         }
         self.job(offer);
     }
@@ -666,7 +650,7 @@ impl Day {
     }
 
     fn wrong_show(&mut self) -> u64 {
-        let shows = self.session.farm().map_or(0, Farm::show_count);
+        let shows = self.session.show_count();
         self.random.pick(&[0, shows + 1, 33, LONGEST])
     }
 
@@ -675,7 +659,7 @@ impl Day {
     }
 
     fn job_too_large(&mut self) {
-        let offer = Offer::new(self.some_show(), MOST_UNITS, self.clock() + 1);
+        let offer = Offer::new(self.some_show(), MOST_UNITS, self.session.clock() + 1);
         self.job_at_some_cost(offer);
     }
 
@@ -739,37 +723,22 @@ impl Day {
     }
 
     fn opening_near_limits(&mut self) -> (u64, Costs, Vec<u64>) {
-        let return_cost = self.near(1, MOST_RETURN_COST);
+        let return_cost = self.random.near(1, MOST_RETURN_COST);
         let costs = Costs {
-            send: self.near(1, MOST_SEND_COST),
-            compute: self.near(1, MOST_COMPUTE_COST),
-            link_setup: self.near(0, MOST_SETUP),
-            node_setup: self.near(0, MOST_SETUP),
+            send: self.random.near(1, MOST_SEND_COST),
+            compute: self.random.near(1, MOST_COMPUTE_COST),
+            link_setup: self.random.near(0, MOST_SETUP),
+            node_setup: self.random.near(0, MOST_SETUP),
             return_cost: self.if_returning(return_cost),
         };
-        let nodes = self.near(1, MOST_NODES as u64);
-        let shows = self.near(1, MOST_SHOWS as u64);
-        let allowances = (0..shows).map(|_| self.near(0, LAST_TICK).min(LAST_TICK));
+        let nodes = self.random.near(1, MOST_NODES as u64);
+        let shows = self.random.near(1, MOST_SHOWS as u64);
+        let allowances = (0..shows).map(|_| self.random.near(0, LAST_TICK).min(LAST_TICK));
         let mut allowances: Vec<u64> = allowances.collect();
         if self.random.once_in(12) && shows > 0 {
             allowances[shows as usize - 1] = LAST_TICK + 1;
         }
         (nodes, costs, allowances)
-    }
-
-    /// A number at a limit, rarely beyond it, or anywhere between.
-    fn near(&mut self, least: u64, greatest: u64) -> u64 {
-        let r = &mut self.random;
-        match r.between(0, 39) {
-            0 => least.saturating_sub(1),
-            1 => greatest + 1,
-            2..=9 => least,
-            10..=17 => greatest,
-            18..=22 => least + 1,
-            23..=27 => greatest - 1,
-            28..=33 => r.between(least, greatest),
-            _ => r.of_any_length(greatest).max(least),
-        }
     }
 }
 
@@ -782,7 +751,7 @@ impl Day {
             return;
         };
         let mut numbers = Vec::new();
-        text::read_line(&self.bytes[place.clone()], &mut numbers);
+        read_line(&self.bytes[place.clone()], &mut numbers);
         for (show, allowance) in (1..).zip(&mut numbers[BEFORE_ALLOWANCES..]) {
             *allowance = self.about_held(show).unwrap_or(*allowance);
         }
@@ -847,7 +816,7 @@ impl Day {
     }
 
     fn compute_near_limits(&mut self) -> Option<u64> {
-        let compute = self.near(1, MOST_COMPUTE_COST);
+        let compute = self.random.near(1, MOST_COMPUTE_COST);
         self.in_half(compute)
     }
 }
@@ -896,7 +865,7 @@ impl Day {
     }
 
     fn some_waiting(&mut self) -> Option<u64> {
-        let numbers = self.numbers();
+        let numbers = self.session.numbers();
         (!numbers.is_empty()).then(|| self.random.pick(&numbers))
     }
 
@@ -927,7 +896,7 @@ impl Day {
 
     /// A begun job, a gone one, the next one, or no job's number at all.
     fn withdraw_wrong(&mut self) {
-        let (numbers, used) = (self.numbers(), self.numbers_used());
+        let (numbers, used) = (self.session.numbers(), self.session.numbers_used());
         let over: Vec<u64> = (1..=used).filter(|job| !numbers.contains(job)).collect();
         let r = &mut self.random;
         let unknown = r.pick(&[0, used + 1, used + 2, LAST_TICK, LAST_TICK + 1, LONGEST]);
@@ -957,14 +926,14 @@ impl Day {
     /// Offers a job that others need, with these, and answers its number; none
     /// where nothing of the kind is found.
     fn offer_needed(&mut self) -> Option<u64> {
-        if self.waiting() > FEW_WAITING {
+        if self.session.waiting() > FEW_WAITING {
             return None;
         }
         let offers = (0..TRIED_OFFERS).find_map(|_| self.offers_with_a_needed_one())?;
         for offer in offers {
             self.offer(offer);
         }
-        Some(self.numbers_used() - 2)
+        Some(self.session.numbers_used() - 2)
     }
 
     /// Three offers of which the second needs more nodes behind the first than
@@ -1006,7 +975,7 @@ impl Day {
         let offer = Offer::new(show, size, LAST_TICK).with_compute(compute);
         match self.random.between(0, 3) {
             0 => self.job_at_the_edge(offer),
-            1 => self.job(offer.by(self.clock() + 20 * size)),
+            1 => self.job(offer.by(self.session.clock() + 20 * size)),
             _ => self.job(offer),
         }
     }
@@ -1026,7 +995,7 @@ impl Day {
                 let show = self.some_show();
                 let r = &mut self.random;
                 let (size, wait) = (r.between(1, 50), r.between(horizon / 2, horizon));
-                self.job_at_some_cost(Offer::new(show, size, self.clock() + wait));
+                self.job_at_some_cost(Offer::new(show, size, self.session.clock() + wait));
             }
         }
         if let Some(job) = needed {
@@ -1059,7 +1028,7 @@ impl Day {
 
     /// A tick away, or after half to twice the wait.
     fn deadline_beside(&mut self, deadline: u64) -> u64 {
-        let clock = self.clock();
+        let clock = self.session.clock();
         let wait = deadline.saturating_sub(clock);
         let r = &mut self.random;
         match r.between(0, 3) {
@@ -1109,7 +1078,7 @@ impl Day {
 
     /// Whatever may stand behind the deadline; some of it can be read.
     fn odd_compute(&mut self) {
-        let offer = Offer::new(self.some_show(), 1, self.clock() + 2_000);
+        let offer = Offer::new(self.some_show(), 1, self.session.clock() + 2_000);
         let mut line = line(self.kind_of_offer(), &offer.fields());
         line.extend_from_slice(self.random.pick(&[
             b"\t".as_slice(),
@@ -1204,7 +1173,7 @@ impl Day {
     /// of them; some of it can be read.
     fn odd_quote(&mut self) {
         let show = self.some_show();
-        let deadline = self.clock() + 2_000;
+        let deadline = self.session.clock() + 2_000;
         let (before, size, after) = self.random.pick(&[
             ("quote\t", "1", ""),
             ("quote\t", "001", ""),
@@ -1258,7 +1227,7 @@ impl Day {
         }
         let show = self.some_show();
         let compute = self.some_compute();
-        let time = self.clock() + self.random.between(0, 3);
+        let time = self.session.clock() + self.random.between(0, 3);
         match self.random.between(0, 3) {
             0 => farm_line(2, Costs::new(1, 2, 3, 4, 5), &[6, 7]),
             1 => {
@@ -1323,13 +1292,6 @@ impl Day {
 fn is_needed(farm: &Farm<Quick>, job: u64) -> bool {
     let mut farm = farm.clone();
     farm.withdraw(job).is_ok() && farm.offer(Offer::new(1, 1, LAST_TICK)).is_err()
-}
-
-fn line(kind: &[u8], numbers: &[u64]) -> Vec<u8> {
-    let mut line = Vec::new();
-    text::print(&mut line, kind, numbers);
-    line.pop();
-    line
 }
 
 fn farm_line(nodes: u64, costs: Costs, allowances: &[u64]) -> Vec<u8> {

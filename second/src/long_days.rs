@@ -1,7 +1,7 @@
 //! Long days, to measure programs on.
 
 use crate::days::farm_numbers;
-use crate::farm::{Farm, Offer};
+use crate::farm::Offer;
 use crate::limits::{LAST_TICK, MOST_DIGITS, MOST_UNITS};
 use crate::program::Session;
 use crate::quick::Quick;
@@ -117,10 +117,7 @@ impl Writer {
     }
 
     fn line(&mut self, kind: &[u8], numbers: &[u64]) {
-        let mut line = Vec::new();
-        text::print(&mut line, kind, numbers);
-        line.pop();
-        self.raw(&line);
+        self.raw(&text::line(kind, numbers));
     }
 
     /// The same with zeros before the numbers, so that each has 8 digits at least.
@@ -142,24 +139,6 @@ impl Writer {
     fn gives(&self, offer: Offer) -> bool {
         let farm = self.session.farm().cloned();
         farm.is_some_and(|mut farm| farm.quote(offer).is_ok())
-    }
-
-    fn waiting(&self) -> usize {
-        self.session.farm().map_or(0, Farm::waiting)
-    }
-
-    fn numbers(&self) -> Vec<u64> {
-        let farm = self.session.farm();
-        farm.map_or_else(Vec::new, |farm| farm.numbers().collect())
-    }
-
-    fn starts(&self) -> Vec<u64> {
-        let farm = self.session.farm();
-        farm.map_or_else(Vec::new, |farm| farm.starts().collect())
-    }
-
-    fn clock(&self) -> u64 {
-        self.session.farm().map_or(0, Farm::clock)
     }
 }
 
@@ -184,7 +163,7 @@ impl Queue {
         };
         let mut writer = Writer::new(self.name, farm_costs);
         while writer.day.lines < QUEUE_LINES {
-            if writer.waiting() > WAITING {
+            if writer.session.waiting() > WAITING {
                 (self.make_room)(&mut writer);
             }
             let show = writer.random.between(1, 8);
@@ -208,7 +187,7 @@ impl Queue {
 
 /// A clock move lets a few begin.
 fn begin_a_few(writer: &mut Writer) {
-    let fourth = writer.starts()[3];
+    let fourth = writer.session.starts()[3];
     writer.line(b"clock", &[fourth]);
 }
 
@@ -219,7 +198,7 @@ fn withdraw_mostly(writer: &mut Writer) {
     if writer.random.once_in(16) {
         return begin_a_few(writer);
     }
-    let numbers = writer.numbers();
+    let numbers = writer.session.numbers();
     let job = writer.random.pick(&numbers);
     writer.line(b"withdraw", &[job]);
 }
@@ -240,19 +219,19 @@ fn speech_or_music(random: &mut Random) -> Option<u64> {
 
 /// Far enough that a node or two will do.
 fn loose_deadline(writer: &mut Writer, _: Costs, size: u64) -> u64 {
-    writer.clock() + size * 500 + writer.random.between(300_000, 900_000)
+    writer.session.clock() + size * 500 + writer.random.between(300_000, 900_000)
 }
 
 /// Just enough for some number of nodes at the end of the queue, so that most
 /// jobs need several; now and then amid the queue, where a refusal is likely.
 fn tight_deadline(writer: &mut Writer, costs: Costs, size: u64) -> u64 {
-    let starts = writer.starts();
-    let last = starts.last().map_or(writer.clock(), |&start| start);
+    let starts = writer.session.starts();
+    let last = starts.last().map_or(writer.session.clock(), |&start| start);
     let nodes = writer.random.between(4, 64) as usize;
     let nodes = nodes.min(size as usize / 2);
     let window = Windows::new(costs).least_window(nodes, size, LAST_TICK);
     let start = if writer.random.once_in(4) {
-        writer.clock() + (last - writer.clock()) / 2
+        writer.session.clock() + (last - writer.session.clock()) / 2
     } else {
         last
     };
@@ -287,7 +266,7 @@ fn same_walks() -> [LongDay; 3] {
 /// The jobs that wait before the last one; offers come before all of them.
 fn all_but_one(name: &'static str) -> Writer {
     let mut writer = Writer::new(name, COSTS);
-    while writer.waiting() + 1 < WAITING {
+    while writer.session.waiting() + 1 < WAITING {
         let offer = some_offer(&mut writer.random, 300_000..=900_000);
         writer.offer(b"job", offer);
     }
@@ -319,13 +298,13 @@ fn most_units(writer: &Writer, deadline: u64) -> u64 {
 fn short_lines(lines: usize) -> LongDay {
     let mut writer = Writer::new("short lines, few jobs waiting", COSTS);
     while writer.day.lines < lines {
-        let (show, clock) = (writer.random.between(1, 8), writer.clock());
+        let (show, clock) = (writer.random.between(1, 8), writer.session.clock());
         match writer.random.between(0, 9) {
             0..=3 => writer.line(b"account", &[show]),
             4..=6 => writer.line(b"clock", &[clock + show]),
             7 => writer.offer(b"job", Offer::new(show, MOST_UNITS, clock + 9)),
             8 => writer.line(b"account", &[show + 8]),
-            _ if writer.starts().len() < 4 => {
+            _ if writer.session.starts().len() < 4 => {
                 writer.offer(b"job", Offer::new(show, show, clock + 5_000));
             }
             _ => writer.line(b"clock", &[]),
@@ -339,9 +318,9 @@ fn short_lines(lines: usize) -> LongDay {
 fn catalogue(lines: usize) -> LongDay {
     let mut writer = Writer::new("long numbers, few jobs waiting", COSTS);
     while writer.day.lines < lines {
-        let (show, clock) = (writer.random.between(1, 8), writer.clock());
+        let (show, clock) = (writer.random.between(1, 8), writer.session.clock());
         let fields = Offer::new(show, 9 * show, clock + 5_000).fields();
-        match (writer.random.between(0, 29), &writer.numbers()[..]) {
+        match (writer.random.between(0, 29), &writer.session.numbers()[..]) {
             (0..=21, _) => writer.line_of_long_numbers(b"account", &[show]),
             (22..=26, _) => writer.line_of_long_numbers(b"clock", &[clock + 90 * show]),
             (27, &[job, ..]) => writer.line_of_long_numbers(b"withdraw", &[job]),
@@ -356,7 +335,7 @@ fn catalogue(lines: usize) -> LongDay {
 fn long_runs(lines: usize) -> LongDay {
     let mut writer = Writer::new("long runs without a separator", COSTS);
     while writer.day.lines < lines {
-        let (show, clock) = (writer.random.between(1, 8), writer.clock());
+        let (show, clock) = (writer.random.between(1, 8), writer.session.clock());
         match writer.random.between(0, 3) {
             0 => writer.line(b"clock", &[clock + 90 * show]),
             1 => writer.offer(b"job", Offer::new(show, 9 * show, clock + 5_000)),

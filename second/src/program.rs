@@ -90,6 +90,36 @@ impl<W: Walk> Session<W> {
     }
 }
 
+// What the farm shows; of one that is not opened yet every figure is 0.
+impl<W: Walk> Session<W> {
+    pub fn clock(&self) -> u64 {
+        self.farm().map_or(0, Farm::clock)
+    }
+
+    pub fn show_count(&self) -> u64 {
+        self.farm().map_or(0, Farm::show_count)
+    }
+
+    /// The greatest job number so far.
+    pub fn numbers_used(&self) -> u64 {
+        self.farm().map_or(0, Farm::numbers_used)
+    }
+
+    pub fn waiting(&self) -> usize {
+        self.farm().map_or(0, Farm::waiting)
+    }
+
+    /// The waiting jobs' numbers, in the plan's order.
+    pub fn numbers(&self) -> Vec<u64> {
+        self.farm().into_iter().flat_map(Farm::numbers).collect()
+    }
+
+    /// The waiting jobs' starts, in order.
+    pub fn starts(&self) -> Vec<u64> {
+        self.farm().into_iter().flat_map(Farm::starts).collect()
+    }
+}
+
 fn read_offer(fields: &[u64]) -> Result<Offer, Refusal> {
     Offer::from_fields(fields).ok_or(Refusal::Unreadable)
 }

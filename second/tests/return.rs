@@ -280,20 +280,13 @@ fn read(line: &[u8]) -> (&[u8], Vec<u64>) {
     (kind, numbers)
 }
 
-fn write(kind: &[u8], numbers: &[u64]) -> Vec<u8> {
-    let mut line = Vec::new();
-    text::print(&mut line, kind, numbers);
-    line.pop();
-    line
-}
-
 /// The day with another r; none if it opens no farm.
 fn with_return(day: &[u8], return_cost: u64) -> Option<Vec<u8>> {
     let (mut lines, opening) = lines_and_opening(day);
     let opening = &mut lines[opening?];
     let (_, mut numbers) = read(opening);
     numbers[5] = return_cost;
-    *opening = write(b"farm", &numbers);
+    *opening = text::line(b"farm", &numbers);
     Some(lines.join(&b'\n'))
 }
 
@@ -311,7 +304,7 @@ fn with_dearer_compute(day: &[u8]) -> Option<(Vec<u8>, Vec<u8>, u64)> {
     }
     let mut kept = lines[..=opening].to_vec();
     let mut dearer = lines[..opening].to_vec();
-    dearer.push(write(b"farm", &numbers));
+    dearer.push(text::line(b"farm", &numbers));
     for line in &lines[opening + 1..] {
         match read(line) {
             (kind @ (b"job" | b"quote"), numbers)
@@ -320,7 +313,7 @@ fn with_dearer_compute(day: &[u8]) -> Option<(Vec<u8>, Vec<u8>, u64)> {
                 let own = numbers[3] + return_cost;
                 if is_compute_cost(own) {
                     kept.push(line.clone());
-                    dearer.push(write(kind, &[&numbers[..3], &[own]].concat()));
+                    dearer.push(text::line(kind, &[&numbers[..3], &[own]].concat()));
                 }
             }
             _ => {
@@ -344,7 +337,7 @@ fn answers_with_way_back_computed(day: &[u8], return_cost: u64) -> Vec<u8> {
         .map(|line| match read(line) {
             (b"chunk", mut numbers) => {
                 numbers[7] += numbers[3] * return_cost;
-                write(b"chunk", &numbers)
+                text::line(b"chunk", &numbers)
             }
             _ => line.to_vec(),
         });
