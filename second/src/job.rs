@@ -18,10 +18,7 @@ pub struct Job {
 impl Job {
     /// The farm's costs with the job's p.
     pub fn costs(self, farm: Costs) -> Costs {
-        Costs {
-            compute: self.compute,
-            ..farm
-        }
+        farm.with_compute(self.compute)
     }
 }
 

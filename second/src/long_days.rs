@@ -38,48 +38,14 @@ pub struct LongDay {
 
 /// All long days; each has the same bytes every time.
 pub fn long_days() -> Vec<LongDay> {
-    let loose = Queue {
-        name: "loose deadlines, full queue",
-        return_cost: 0,
-        quotes: 0,
-        make_room: begin_a_few,
-        compute: no_compute,
-        deadline: loose_deadline,
-    };
-    let tight = Queue {
-        name: "tight deadlines, full queue",
-        deadline: tight_deadline,
-        ..loose
-    };
-    let mixed = Queue {
-        name: "mixed compute costs, full queue",
-        compute: speech_or_music,
-        ..tight
-    };
-    let withdrawals = Queue {
-        name: "withdrawals, full queue",
-        make_room: withdraw_mostly,
-        ..loose
-    };
-    let returns = Queue {
-        name: "audio comes back, mixed compute costs, withdrawals, full queue",
-        return_cost: 70,
-        compute: speech_or_music,
-        ..withdrawals
-    };
-    let quotes = Queue {
-        name: "three quotes before each offer, full queue",
-        quotes: 3,
-        ..loose
-    };
     let mut days = vec![
-        loose.day(),
-        tight.day(),
+        LOOSE.written(),
+        TIGHT.written(),
         short_lines(100_000),
-        mixed.day(),
-        withdrawals.day(),
-        returns.day(),
-        quotes.day(),
+        MIXED.written(),
+        WITHDRAWALS.written(),
+        RETURNS.written(),
+        QUOTES.written(),
         catalogue(100_000),
         long_runs(20_000),
     ];
@@ -144,7 +110,7 @@ impl Writer {
 
 /// A day of offers with about 120 jobs waiting.
 #[derive(Clone, Copy)]
-struct Queue {
+struct QueueDay {
     name: &'static str,
     return_cost: u64,
     /// Deadlines quoted before each offer.
@@ -155,8 +121,48 @@ struct Queue {
     deadline: fn(&mut Writer, Costs, size: u64) -> u64,
 }
 
-impl Queue {
-    fn day(self) -> LongDay {
+const LOOSE: QueueDay = QueueDay {
+    name: "loose deadlines, full queue",
+    return_cost: 0,
+    quotes: 0,
+    make_room: begin_a_few,
+    compute: no_compute,
+    deadline: loose_deadline,
+};
+
+const TIGHT: QueueDay = QueueDay {
+    name: "tight deadlines, full queue",
+    deadline: tight_deadline,
+    ..LOOSE
+};
+
+const MIXED: QueueDay = QueueDay {
+    name: "mixed compute costs, full queue",
+    compute: speech_or_music,
+    ..TIGHT
+};
+
+const WITHDRAWALS: QueueDay = QueueDay {
+    name: "withdrawals, full queue",
+    make_room: withdraw_mostly,
+    ..LOOSE
+};
+
+const RETURNS: QueueDay = QueueDay {
+    name: "audio comes back, mixed compute costs, withdrawals, full queue",
+    return_cost: 70,
+    compute: speech_or_music,
+    ..WITHDRAWALS
+};
+
+const QUOTES: QueueDay = QueueDay {
+    name: "three quotes before each offer, full queue",
+    quotes: 3,
+    ..LOOSE
+};
+
+impl QueueDay {
+    fn written(self) -> LongDay {
         let farm_costs = Costs {
             return_cost: self.return_cost,
             ..COSTS
@@ -169,10 +175,7 @@ impl Queue {
             let show = writer.random.between(1, 8);
             let size = writer.random.between(20, 400);
             let own = (self.compute)(&mut writer.random);
-            let costs = Costs {
-                compute: own.unwrap_or(farm_costs.compute),
-                ..farm_costs
-            };
+            let costs = farm_costs.with_compute(own.unwrap_or(farm_costs.compute));
             let offer = |deadline| Offer::new(show, size, deadline).with_compute(own);
             for _ in 0..self.quotes {
                 let deadline = (self.deadline)(&mut writer, costs, size);
@@ -225,13 +228,12 @@ fn loose_deadline(writer: &mut Writer, _: Costs, size: u64) -> u64 {
 /// Just enough for some number of nodes at the end of the queue, so that most
 /// jobs need several; now and then amid the queue, where a refusal is likely.
 fn tight_deadline(writer: &mut Writer, costs: Costs, size: u64) -> u64 {
-    let starts = writer.session.starts();
-    let last = starts.last().map_or(writer.session.clock(), |&start| start);
+    let (clock, last) = (writer.session.clock(), writer.session.last_start());
     let nodes = writer.random.between(4, 64) as usize;
     let nodes = nodes.min(size as usize / 2);
     let window = Windows::new(costs).least_window(nodes, size, LAST_TICK);
     let start = if writer.random.once_in(4) {
-        writer.session.clock() + (last - writer.session.clock()) / 2
+        clock + (last - clock) / 2
     } else {
         last
     };

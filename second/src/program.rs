@@ -118,6 +118,12 @@ impl<W: Walk> Session<W> {
     pub fn starts(&self) -> Vec<u64> {
         self.farm().into_iter().flat_map(Farm::starts).collect()
     }
+
+    /// The last waiting job's start, or the clock where none waits.
+    pub fn last_start(&self) -> u64 {
+        let last = self.farm().and_then(|farm| farm.starts().last());
+        last.unwrap_or(self.clock())
+    }
 }
 
 fn read_offer(fields: &[u64]) -> Result<Offer, Refusal> {
