@@ -246,8 +246,13 @@ pub fn run<W: Walk>(mut input: impl Read, mut output: impl Write) -> io::Result<
 
 /// The quick walk's answers to a whole day.
 pub fn answers(day: &[u8]) -> Vec<u8> {
+    answers_by::<Quick>(day)
+}
+
+/// Any walk's answers to a whole day.
+pub fn answers_by<W: Walk>(day: &[u8]) -> Vec<u8> {
     let mut answers = Vec::new();
     // Reading a slice and writing a vector cannot fail.
-    let _ = run::<Quick>(day, &mut answers);
+    let _ = run::<W>(day, &mut answers);
     answers
 }

@@ -8,7 +8,7 @@ use second::exhaustive::Exhaustive;
 use second::farm::{Farm, Offer};
 use second::job::Record;
 use second::limits::*;
-use second::program::{answers, run, Session};
+use second::program::{answers, answers_by, Session};
 use second::quick::{Quick, Whole};
 use second::refusal::Refusal;
 use second::share::Costs;
@@ -208,8 +208,7 @@ fn an_absent_p_is_the_farms() {
 fn kept_bookings_are_those_of_a_whole_walk() {
     for seed in 0..160 {
         let day = day(seed);
-        let mut whole = Vec::new();
-        run::<Whole>(&day[..], &mut whole).unwrap();
+        let whole = answers_by::<Whole>(&day);
         assert!(answers(&day) == whole, "seed {seed}");
     }
 }
@@ -217,8 +216,7 @@ fn kept_bookings_are_those_of_a_whole_walk() {
 /// The mixed day by hand again, by trying everything.
 #[test]
 fn the_exhaustive_walk_books_by_own_p() {
-    let mut given = Vec::new();
-    run::<Exhaustive>(&tabs(MIXED)[..], &mut given).unwrap();
+    let given = answers_by::<Exhaustive>(&tabs(MIXED));
     assert_eq!(given, tabs(MIXED_ANSWERS));
 }
 

@@ -2,31 +2,24 @@
 
 mod common;
 
-use common::{check, tabs};
+use common::{check, read, tabs};
 use second::days::{day, tiny_day};
 use second::exhaustive::Exhaustive;
 use second::farm::{Farm, Offer};
 use second::job::{Record, Walk};
 use second::limits::*;
-use second::program::{run, Session};
+use second::program::{answers_by, Session};
 use second::quick::{Quick, Whole};
 use second::random::Random;
 use second::refusal::Refusal;
 use second::share::Costs;
-use second::text::read_line;
 use std::collections::BTreeMap;
-
-fn answers_by<W: Walk>(day: &str) -> Vec<u8> {
-    let mut given = Vec::new();
-    run::<W>(&tabs(day)[..], &mut given).unwrap();
-    given
-}
 
 /// By every walk.
 fn check_all(day: &str, expected: &str) {
     check(day, expected);
-    assert_eq!(answers_by::<Whole>(day), tabs(expected));
-    assert_eq!(answers_by::<Exhaustive>(day), tabs(expected));
+    assert_eq!(answers_by::<Whole>(&tabs(day)), tabs(expected));
+    assert_eq!(answers_by::<Exhaustive>(&tabs(day)), tabs(expected));
 }
 
 /// The paper's listing: r is 0, so computing ends with the chunk, at 6 + 6 * 2 = 18,
@@ -264,13 +257,6 @@ fn random_farms_end_computing_as_the_costs_say() {
     let tried = (0..100).map(|s| issued_by_own_cost::<Exhaustive>(s, 5));
     let tried: usize = tried.sum();
     assert!(tried > 300, "only {tried} chunks");
-}
-
-/// The kind and numbers of a line; no kind where it cannot be read.
-fn read(line: &[u8]) -> (&[u8], Vec<u64>) {
-    let mut numbers = Vec::new();
-    let kind = read_line(line, &mut numbers).unwrap_or_default();
-    (kind, numbers)
 }
 
 /// What the chunks of a day tell from what.

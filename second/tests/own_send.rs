@@ -8,7 +8,7 @@ use second::exhaustive::Exhaustive;
 use second::farm::{Farm, Offer};
 use second::job::Record;
 use second::limits::*;
-use second::program::{run, Session};
+use second::program::{answers_by, Session};
 use second::quick::Quick;
 use second::random::Random;
 use second::refusal::Refusal;
@@ -19,8 +19,7 @@ use std::collections::BTreeMap;
 /// By the quick walk and by trying everything.
 fn check_both(day: &str, expected: &str) {
     check(day, expected);
-    let mut tried = Vec::new();
-    run::<Exhaustive>(&tabs(day)[..], &mut tried).unwrap();
+    let tried = answers_by::<Exhaustive>(&tabs(day));
     assert_eq!(tried, tabs(expected));
 }
 

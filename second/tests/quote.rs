@@ -2,13 +2,13 @@
 
 mod common;
 
-use common::{check, tabs};
+use common::{check, tabs, waiting};
 use second::days::{day, tiny_day};
 use second::exhaustive::Exhaustive;
 use second::farm::{Farm, Offer};
 use second::job::{Record, Walk};
 use second::limits::*;
-use second::program::{run, Session};
+use second::program::{answers_by, Session};
 use second::quick::{Quick, Whole};
 use second::random::Random;
 use second::refusal::Refusal;
@@ -255,9 +255,8 @@ fn a_quote_needs_a_farm_and_an_offers_numbers() {
 
 #[test]
 fn the_other_walks_quote_alike() {
-    let (mut whole, mut exhaustive) = (Vec::new(), Vec::new());
-    run::<Whole>(&tabs(LISTING)[..], &mut whole).unwrap();
-    run::<Exhaustive>(&tabs(LISTING)[..], &mut exhaustive).unwrap();
+    let whole = answers_by::<Whole>(&tabs(LISTING));
+    let exhaustive = answers_by::<Exhaustive>(&tabs(LISTING));
     assert_eq!(whole, tabs(LISTING_ANSWERS));
     assert_eq!(exhaustive, whole);
 }
@@ -316,13 +315,10 @@ fn is_quoted(farm: &mut Farm<Quick>, random: &mut Random) -> bool {
 
 /// All that a farm shows, and what it tells a copy of the next offer.
 fn figures(farm: &Farm<Quick>) -> impl PartialEq + std::fmt::Debug {
-    let mut lines = vec![Record::default(); MOST_NODES * MOST_WAITING];
-    let count = farm.show_waiting(&mut lines).unwrap();
-    lines.truncate(count);
     let accounts = [1, 2].map(|show| farm.account(show).unwrap());
     let next = farm.clone().offer(Offer::new(1, 1, LAST_TICK));
     let numbers = (farm.clock(), farm.numbers_used());
-    (lines, accounts, next, numbers)
+    (waiting(farm), accounts, next, numbers)
 }
 
 fn lines(day: &[u8]) -> impl Iterator<Item = &[u8]> {

@@ -2,13 +2,13 @@
 
 mod common;
 
-use common::{check, tabs};
+use common::{check, read, tabs};
 use second::days::{day, tiny_day};
 use second::exhaustive::Exhaustive;
 use second::farm::{Farm, Offer};
 use second::job::Record;
 use second::limits::*;
-use second::program::{answers, run, Session};
+use second::program::{answers, answers_by, Session};
 use second::quick::Quick;
 use second::share::Costs;
 use second::text;
@@ -59,8 +59,7 @@ fn the_listing_with_a_way_back() {
 /// The same by trying everything.
 #[test]
 fn the_exhaustive_walk_answers_alike() {
-    let mut given = Vec::new();
-    run::<Exhaustive>(&tabs(LISTING)[..], &mut given).unwrap();
+    let given = answers_by::<Exhaustive>(&tabs(LISTING));
     assert_eq!(given, tabs(LISTING_ANSWERS));
 }
 
@@ -273,13 +272,6 @@ fn lines_and_opening(day: &[u8]) -> (Vec<Vec<u8>>, Option<usize>) {
     (lines, opening)
 }
 
-/// The kind and numbers of a line; no kind where it cannot be read.
-fn read(line: &[u8]) -> (&[u8], Vec<u64>) {
-    let mut numbers = Vec::new();
-    let kind = text::read_line(line, &mut numbers).unwrap_or_default();
-    (kind, numbers)
-}
-
 /// The day with another r; none if it opens no farm.
 fn with_return(day: &[u8], return_cost: u64) -> Option<Vec<u8>> {
     let (mut lines, opening) = lines_and_opening(day);
@@ -362,8 +354,7 @@ fn r_is_answered_as_a_dearer_p() {
 fn tiny_days_with_any_return_cost_are_answered_alike() {
     for seed in 2_000..2_200 {
         let day = with_return(&tiny_day(seed), 1 + seed % 6).unwrap();
-        let mut tried = Vec::new();
-        run::<Exhaustive>(&day[..], &mut tried).unwrap();
+        let tried = answers_by::<Exhaustive>(&day);
         assert_eq!(answers(&day), tried, "seed {seed}: {}", day.escape_ascii());
     }
 }

@@ -1,12 +1,15 @@
 //! The quick walk books as the exhaustive one does on tiny days, and as a plain
 //! one does on days of every size.
 
+mod common;
+
+use common::waiting;
 use second::days::{day, tiny_day};
 use second::exhaustive::Exhaustive;
 use second::farm::{Farm, Offer};
 use second::job::{Begun, Booking, Chunk, Job, Plan, Queue, Record, Walk, Walked};
 use second::node::{FreeNode, Ranking};
-use second::program::{answers, run};
+use second::program::{answers, answers_by};
 use second::quick::{Quick, Whole};
 use second::random::Random;
 use second::share::{Costs, Windows};
@@ -15,8 +18,7 @@ use second::share::{Costs, Windows};
 fn tiny_days_are_answered_alike() {
     for seed in 0..1_500 {
         let day = tiny_day(seed);
-        let mut tried = Vec::new();
-        run::<Exhaustive>(&day[..], &mut tried).unwrap();
+        let tried = answers_by::<Exhaustive>(&day);
         assert_eq!(answers(&day), tried, "seed {seed}: {}", day.escape_ascii());
     }
 }
@@ -65,13 +67,6 @@ fn tiny_farms_show_the_same_timetables() {
     }
     assert!(granted > 3_000, "only {granted} offers granted");
     assert!(withdrawn > 500, "only {withdrawn} jobs withdrawn");
-}
-
-fn waiting<W: Walk>(farm: &Farm<W>) -> Vec<Record> {
-    let mut lines = vec![Record::default(); 400];
-    let count = farm.show_waiting(&mut lines).unwrap();
-    lines.truncate(count);
-    lines
 }
 
 /// A tiny farm with its nodes and its link taken for some time.
@@ -250,8 +245,7 @@ fn halve(mut enough: u64, is_enough: impl Fn(u64) -> bool) -> u64 {
 fn days_of_every_size_are_answered_alike() {
     for seed in 0..160 {
         let day = day(seed);
-        let mut plain = Vec::new();
-        run::<Plain>(&day[..], &mut plain).unwrap();
+        let plain = answers_by::<Plain>(&day);
         assert!(answers(&day) == plain, "seed {seed}");
     }
 }

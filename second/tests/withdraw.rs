@@ -2,13 +2,13 @@
 
 mod common;
 
-use common::{check, tabs};
+use common::{check, tabs, waiting};
 use second::days::{day, tiny_day};
 use second::exhaustive::Exhaustive;
 use second::farm::{Farm, Offer};
 use second::job::{Begun, Plan, Queue, Record, Walk, Walked};
 use second::limits::*;
-use second::program::{run, Session};
+use second::program::{answers_by, Session};
 use second::quick::{Quick, Whole};
 use second::random::Random;
 use second::refusal::Refusal;
@@ -229,8 +229,7 @@ fn the_exhaustive_walk_answers_alike() {
          clock 2 2\nyes 4 19 21 1\n"
     );
     for (day, expected) in [(FREED, FREED_ANSWERS), (&needed, &needed_answers)] {
-        let mut given = Vec::new();
-        run::<Exhaustive>(&tabs(day)[..], &mut given).unwrap();
+        let given = answers_by::<Exhaustive>(&tabs(day));
         assert_eq!(given, tabs(expected));
     }
 }
@@ -280,13 +279,6 @@ fn withdraw_and_look(farm: &mut Farm<Quick>, job: u64) -> bool {
     assert_eq!(rest(farm), before);
     assert_eq!(farm.withdraw(job), Err(Refusal::NotWaiting));
     waits
-}
-
-fn waiting(farm: &Farm<Quick>) -> Vec<Record> {
-    let mut lines = vec![Record::default(); MOST_NODES * MOST_WAITING];
-    let count = farm.show_waiting(&mut lines).unwrap();
-    lines.truncate(count);
-    lines
 }
 
 thread_local! {
