@@ -1,4 +1,4 @@
-//! The kinds of day, but for those in `full`.
+//! The kinds of day, but for those that fill the queue or the timetable.
 
 use super::Day;
 use crate::farm::Offer;

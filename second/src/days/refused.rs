@@ -1,4 +1,4 @@
-//! Lines that can be read and are refused.
+//! Lines that are refused; most of them can be read.
 
 use super::{Day, LONGEST};
 use crate::farm::Offer;
