@@ -1,7 +1,7 @@
 //! The exhaustive walk, word for word from the paper: every start, every set
 //! of free nodes, every share list. For tiny days only.
 
-use crate::job::{Begun, Booking, Chunk, Job, Plan, Walk, Walked};
+use crate::job::{Begun, Booking, Chunk, Job, Queue, Walk, Walked};
 use crate::node::FreeNode;
 use crate::share::Costs;
 use std::cmp::Reverse;
@@ -30,10 +30,10 @@ struct Course {
 }
 
 impl Walk for Exhaustive {
-    fn book(&mut self, begun: &Begun, plan: &Plan, new: Job) -> bool {
+    fn book(&mut self, begun: &Begun, queue: Queue) -> bool {
         let mut course = Course::new(begun);
-        let mut jobs: Vec<Job> = plan.bookings.iter().map(|b| b.job).collect();
-        jobs.push(new);
+        let mut jobs: Vec<Job> = queue.jobs().collect();
+        // As the paper words it, whatever the plan's order.
         jobs.sort_by_key(|job| (job.deadline, job.number));
         self.0 = Walked::default();
         for job in jobs {

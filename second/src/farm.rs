@@ -25,6 +25,54 @@ struct Held {
     ticks: u64,
 }
 
+/// What an offer or a quote asks for, in the order of its line.
+#[derive(Clone, Copy, Debug, PartialEq, Eq)]
+pub struct Offer {
+    pub show: u64,
+    pub size: u64,
+    pub deadline: u64,
+    /// The job's own p; the farm's serves where there is none.
+    pub compute: Option<u64>,
+}
+
+impl Offer {
+    /// At the farm's p.
+    pub fn new(show: u64, size: u64, deadline: u64) -> Self {
+        Offer {
+            show,
+            size,
+            deadline,
+            compute: None,
+        }
+    }
+
+    pub fn with_compute(self, compute: impl Into<Option<u64>>) -> Self {
+        let compute = compute.into();
+        Offer { compute, ..self }
+    }
+
+    pub fn by(self, deadline: u64) -> Self {
+        Offer { deadline, ..self }
+    }
+
+    /// Reads a line's numbers; none if they are too few or too many.
+    pub fn from_fields(fields: &[u64]) -> Option<Self> {
+        let (&[show, size, deadline], rest) = fields.split_first_chunk()?;
+        let offer = Offer::new(show, size, deadline);
+        match *rest {
+            [] => Some(offer),
+            [compute] => Some(offer.with_compute(compute)),
+            _ => None,
+        }
+    }
+
+    /// The numbers of its line.
+    pub fn fields(self) -> Vec<u64> {
+        let fields = [self.show, self.size, self.deadline].into_iter();
+        fields.chain(self.compute).collect()
+    }
+}
+
 /// The answer to a granted offer or quote.
 #[derive(Clone, Copy, Debug, PartialEq, Eq)]
 pub struct Accepted {
@@ -82,30 +130,10 @@ impl<W: Walk> Farm<W> {
     }
 
     /// The answer that an offer would get. The farm stays as it is; only the
-    /// walk's own memory is written. The farm's p serves where none is given.
-    pub fn quote(
-        &mut self,
-        show: u64,
-        size: u64,
-        deadline: u64,
-        own_compute: Option<u64>,
-    ) -> Result<Accepted, Refusal> {
-        self.show_place(show)?;
-        ask((1..=MOST_UNITS).contains(&size), Refusal::Size)?;
-        let compute = own_compute.unwrap_or(self.costs().compute);
-        ask((1..=MOST_COMPUTE_COST).contains(&compute), Refusal::Costs)?;
-        let in_time = self.begun.clock < deadline && deadline <= LAST_TICK;
-        ask(in_time, Refusal::Deadline)?;
-        let room = self.waiting() < MOST_WAITING && self.numbers_used < MOST_JOB_NUMBERS;
-        ask(room, Refusal::QueueFull)?;
-        let new = Job {
-            number: self.numbers_used + 1,
-            show,
-            size,
-            deadline,
-            compute,
-        };
-        let booked = self.walk.book(&self.begun, &self.plan, new);
+    /// walk's own memory is written.
+    pub fn quote(&mut self, offer: Offer) -> Result<Accepted, Refusal> {
+        let new = self.new_job(offer)?;
+        let booked = self.walk.book(&self.begun, self.plan.queue(Some(new)));
         ask(booked, Refusal::NotBookable)?;
         let (booking, chunks) = self.walk.walked().booking_of(new);
         let finish = chunks.iter().map(|chunk| chunk.free.time()).max();
@@ -117,16 +145,29 @@ impl<W: Walk> Farm<W> {
         })
     }
 
+    /// The job that an offer would become: asks all that comes before the walk.
+    fn new_job(&self, offer: Offer) -> Result<Job, Refusal> {
+        self.show_place(offer.show)?;
+        ask((1..=MOST_UNITS).contains(&offer.size), Refusal::Size)?;
+        let compute = offer.compute.unwrap_or(self.costs().compute);
+        ask((1..=MOST_COMPUTE_COST).contains(&compute), Refusal::Costs)?;
+        let in_time = self.begun.clock < offer.deadline && offer.deadline <= LAST_TICK;
+        ask(in_time, Refusal::Deadline)?;
+        let room = self.waiting() < MOST_WAITING && self.numbers_used < MOST_JOB_NUMBERS;
+        ask(room, Refusal::QueueFull)?;
+        Ok(Job {
+            number: self.numbers_used + 1,
+            show: offer.show,
+            size: offer.size,
+            deadline: offer.deadline,
+            compute,
+        })
+    }
+
     /// Takes what a quote would give: its number is used, and the plan follows
     /// its walk.
-    pub fn offer(
-        &mut self,
-        show: u64,
-        size: u64,
-        deadline: u64,
-        own_compute: Option<u64>,
-    ) -> Result<Accepted, Refusal> {
-        let accepted = self.quote(show, size, deadline, own_compute)?;
+    pub fn offer(&mut self, offer: Offer) -> Result<Accepted, Refusal> {
+        let accepted = self.quote(offer)?;
         self.numbers_used = accepted.job;
         self.plan.follow(self.walk.walked());
         Ok(accepted)

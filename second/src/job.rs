@@ -1,4 +1,4 @@
-//! Jobs, their bookings, and the plan of the waiting ones.
+//! Jobs, their bookings, the plan of the waiting ones, and what a walk is.
 
 use crate::node::{FreeNode, Ranking};
 use crate::share::{Costs, Windows};
@@ -18,10 +18,7 @@ pub struct Job {
 impl Job {
     /// The farm's costs with the job's p.
     pub fn costs(self, farm: Costs) -> Costs {
-        Costs {
-            compute: self.compute,
-            ..farm
-        }
+        farm.with_compute(self.compute)
     }
 }
 
@@ -70,7 +67,7 @@ pub struct Begun {
 /// The waiting bookings by deadline, equal deadlines by number, and their
 /// chunks in the same order. As each start waits for the link, starts rise in
 /// this order too, so jobs begin from the front.
-#[derive(Clone, Debug, Default)]
+#[derive(Clone, Debug, Default, PartialEq, Eq)]
 pub struct Plan {
     pub bookings: VecDeque<Booking>,
     pub chunks: VecDeque<Chunk>,
@@ -83,6 +80,11 @@ impl Plan {
     /// The number of chunks of the first bookings.
     pub fn chunks_of_first(&self, bookings: usize) -> usize {
         self.bookings.range(..bookings).map(|b| b.nodes).sum()
+    }
+
+    /// Its jobs to be walked, with a new one or alone.
+    pub fn queue(&self, new: Option<Job>) -> Queue<'_> {
+        Queue { plan: self, new }
     }
 
     /// Follows a walk, whose first bookings are the plan's own.
@@ -128,6 +130,43 @@ impl Plan {
     }
 }
 
+/// The jobs that a walk books: the waiting ones, and for an offer the new one. There
+/// may be none at all.
+#[derive(Clone, Copy, Debug)]
+pub struct Queue<'a> {
+    pub plan: &'a Plan,
+    pub new: Option<Job>,
+}
+
+impl<'a> Queue<'a> {
+    /// In the walk's order: by deadline, equal ones by number, the new one last.
+    pub fn jobs(self) -> impl Iterator<Item = Job> + 'a {
+        self.jobs_behind(0)
+    }
+
+    /// The same without the first so many waiting jobs, which come before the new one.
+    pub fn jobs_behind(self, first: usize) -> impl Iterator<Item = Job> + 'a {
+        let place = self.place_of_new();
+        let bookings = &self.plan.bookings;
+        let earlier = bookings.range(first..place).map(|b| b.job);
+        let later = bookings.range(place..).map(|b| b.job);
+        earlier.chain(self.new).chain(later)
+    }
+
+    /// The first so many bookings of the plan are what a walk of this queue would
+    /// give: the new job comes behind them.
+    pub fn as_walked(self) -> usize {
+        self.plan.as_walked.min(self.place_of_new())
+    }
+
+    /// Behind the waiting jobs with deadlines no later; behind all where no job is new.
+    fn place_of_new(self) -> usize {
+        let bookings = &self.plan.bookings;
+        let behind = |new: Job| bookings.partition_point(|b| b.job.deadline <= new.deadline);
+        self.new.map_or(bookings.len(), behind)
+    }
+}
+
 /// What a walk booked, in the plan's order.
 #[derive(Clone, Debug, Default)]
 pub struct Walked {
@@ -148,11 +187,11 @@ impl Walked {
     }
 }
 
-/// A way to book the waiting jobs.
+/// A way to book a queue of jobs.
 pub trait Walk: Default {
-    /// Whether all waiting jobs and the new one are booked. The plan is only
+    /// Whether every job is booked; of an empty queue all are. The plan is only
     /// looked at.
-    fn book(&mut self, begun: &Begun, plan: &Plan, new: Job) -> bool;
+    fn book(&mut self, begun: &Begun, queue: Queue) -> bool;
 
     /// What the last walk booked, where that was all jobs.
     fn walked(&self) -> &Walked;

@@ -1,13 +1,14 @@
 //! Long days, to measure programs on.
 
 use crate::days::farm_numbers;
-use crate::farm::Farm;
+use crate::farm::Offer;
 use crate::limits::{LAST_TICK, MOST_DIGITS, MOST_UNITS};
 use crate::program::Session;
 use crate::quick::Quick;
 use crate::random::Random;
 use crate::share::{Costs, Windows};
 use crate::text;
+use std::ops::RangeInclusive;
 
 /// Jobs that wait in a day with a full queue once it is under way.
 const WAITING: usize = 120;
@@ -37,48 +38,14 @@ pub struct LongDay {
 
 /// All long days; each has the same bytes every time.
 pub fn long_days() -> Vec<LongDay> {
-    let loose = Queue {
-        name: "loose deadlines, full queue",
-        return_cost: 0,
-        quotes: 0,
-        make_room: begin_a_few,
-        compute: no_compute,
-        deadline: loose_deadline,
-    };
-    let tight = Queue {
-        name: "tight deadlines, full queue",
-        deadline: tight_deadline,
-        ..loose
-    };
-    let mixed = Queue {
-        name: "mixed compute costs, full queue",
-        compute: speech_or_music,
-        ..tight
-    };
-    let withdrawals = Queue {
-        name: "withdrawals, full queue",
-        make_room: withdraw_mostly,
-        ..loose
-    };
-    let returns = Queue {
-        name: "audio comes back, mixed compute costs, withdrawals, full queue",
-        return_cost: 70,
-        compute: speech_or_music,
-        ..withdrawals
-    };
-    let quotes = Queue {
-        name: "three quotes before each offer, full queue",
-        quotes: 3,
-        ..loose
-    };
     let mut days = vec![
-        loose.day(),
-        tight.day(),
+        LOOSE.written(),
+        TIGHT.written(),
         short_lines(100_000),
-        mixed.day(),
-        withdrawals.day(),
-        returns.day(),
-        quotes.day(),
+        MIXED.written(),
+        WITHDRAWALS.written(),
+        RETURNS.written(),
+        QUOTES.written(),
         catalogue(100_000),
         long_runs(20_000),
     ];
@@ -116,10 +83,7 @@ impl Writer {
     }
 
     fn line(&mut self, kind: &[u8], numbers: &[u64]) {
-        let mut line = Vec::new();
-        text::print(&mut line, kind, numbers);
-        line.pop();
-        self.raw(&line);
+        self.raw(&text::line(kind, numbers));
     }
 
     /// The same with zeros before the numbers, so that each has 8 digits at least.
@@ -133,39 +97,20 @@ impl Writer {
     }
 
     /// A line with an offer's fields: `job` or `quote`.
-    fn offer(&mut self, kind: &[u8], fields: [u64; 3], compute: Option<u64>) {
-        let numbers = fields.into_iter().chain(compute);
-        self.line(kind, &numbers.collect::<Vec<u64>>());
+    fn offer(&mut self, kind: &[u8], offer: Offer) {
+        self.line(kind, &offer.fields());
     }
 
-    /// Whether an offer of these would be granted.
-    fn gives(&self, [show, size, deadline]: [u64; 3]) -> bool {
+    /// Whether the offer would be granted.
+    fn gives(&self, offer: Offer) -> bool {
         let farm = self.session.farm().cloned();
-        farm.is_some_and(|mut farm| farm.quote(show, size, deadline, None).is_ok())
-    }
-
-    fn waiting(&self) -> usize {
-        self.session.farm().map_or(0, Farm::waiting)
-    }
-
-    fn numbers(&self) -> Vec<u64> {
-        let farm = self.session.farm();
-        farm.map_or_else(Vec::new, |farm| farm.numbers().collect())
-    }
-
-    fn starts(&self) -> Vec<u64> {
-        let farm = self.session.farm();
-        farm.map_or_else(Vec::new, |farm| farm.starts().collect())
-    }
-
-    fn clock(&self) -> u64 {
-        self.session.farm().map_or(0, Farm::clock)
+        farm.is_some_and(|mut farm| farm.quote(offer).is_ok())
     }
 }
 
 /// A day of offers with about 120 jobs waiting.
 #[derive(Clone, Copy)]
-struct Queue {
+struct QueueDay {
     name: &'static str,
     return_cost: u64,
     /// Deadlines quoted before each offer.
@@ -176,30 +121,68 @@ struct Queue {
     deadline: fn(&mut Writer, Costs, size: u64) -> u64,
 }
 
-impl Queue {
-    fn day(self) -> LongDay {
+const LOOSE: QueueDay = QueueDay {
+    name: "loose deadlines, full queue",
+    return_cost: 0,
+    quotes: 0,
+    make_room: begin_a_few,
+    compute: no_compute,
+    deadline: loose_deadline,
+};
+
+const TIGHT: QueueDay = QueueDay {
+    name: "tight deadlines, full queue",
+    deadline: tight_deadline,
+    ..LOOSE
+};
+
+const MIXED: QueueDay = QueueDay {
+    name: "mixed compute costs, full queue",
+    compute: speech_or_music,
+    ..TIGHT
+};
+
+const WITHDRAWALS: QueueDay = QueueDay {
+    name: "withdrawals, full queue",
+    make_room: withdraw_mostly,
+    ..LOOSE
+};
+
+const RETURNS: QueueDay = QueueDay {
+    name: "audio comes back, mixed compute costs, withdrawals, full queue",
+    return_cost: 70,
+    compute: speech_or_music,
+    ..WITHDRAWALS
+};
+
+const QUOTES: QueueDay = QueueDay {
+    name: "three quotes before each offer, full queue",
+    quotes: 3,
+    ..LOOSE
+};
+
+impl QueueDay {
+    fn written(self) -> LongDay {
         let farm_costs = Costs {
             return_cost: self.return_cost,
             ..COSTS
         };
         let mut writer = Writer::new(self.name, farm_costs);
         while writer.day.lines < QUEUE_LINES {
-            if writer.waiting() > WAITING {
+            if writer.session.waiting() > WAITING {
                 (self.make_room)(&mut writer);
             }
             let show = writer.random.between(1, 8);
             let size = writer.random.between(20, 400);
             let own = (self.compute)(&mut writer.random);
-            let costs = Costs {
-                compute: own.unwrap_or(farm_costs.compute),
-                ..farm_costs
-            };
+            let costs = farm_costs.with_compute(own.unwrap_or(farm_costs.compute));
+            let offer = |deadline| Offer::new(show, size, deadline).with_compute(own);
             for _ in 0..self.quotes {
                 let deadline = (self.deadline)(&mut writer, costs, size);
-                writer.offer(b"quote", [show, size, deadline], own);
+                writer.offer(b"quote", offer(deadline));
             }
             let deadline = (self.deadline)(&mut writer, costs, size);
-            writer.offer(b"job", [show, size, deadline], own);
+            writer.offer(b"job", offer(deadline));
         }
         writer.day
     }
@@ -207,7 +190,7 @@ impl Queue {
 
 /// A clock move lets a few begin.
 fn begin_a_few(writer: &mut Writer) {
-    let fourth = writer.starts()[3];
+    let fourth = writer.session.starts()[3];
     writer.line(b"clock", &[fourth]);
 }
 
@@ -218,7 +201,7 @@ fn withdraw_mostly(writer: &mut Writer) {
     if writer.random.once_in(16) {
         return begin_a_few(writer);
     }
-    let numbers = writer.numbers();
+    let numbers = writer.session.numbers();
     let job = writer.random.pick(&numbers);
     writer.line(b"withdraw", &[job]);
 }
@@ -239,19 +222,18 @@ fn speech_or_music(random: &mut Random) -> Option<u64> {
 
 /// Far enough that a node or two will do.
 fn loose_deadline(writer: &mut Writer, _: Costs, size: u64) -> u64 {
-    writer.clock() + size * 500 + writer.random.between(300_000, 900_000)
+    writer.session.clock() + size * 500 + writer.random.between(300_000, 900_000)
 }
 
 /// Just enough for some number of nodes at the end of the queue, so that most
 /// jobs need several; now and then amid the queue, where a refusal is likely.
 fn tight_deadline(writer: &mut Writer, costs: Costs, size: u64) -> u64 {
-    let starts = writer.starts();
-    let last = starts.last().map_or(writer.clock(), |&start| start);
+    let (clock, last) = (writer.session.clock(), writer.session.last_start());
     let nodes = writer.random.between(4, 64) as usize;
     let nodes = nodes.min(size as usize / 2);
     let window = Windows::new(costs).least_window(nodes, size, LAST_TICK);
     let start = if writer.random.once_in(4) {
-        writer.clock() + (last - writer.clock()) / 2
+        clock + (last - clock) / 2
     } else {
         last
     };
@@ -267,18 +249,17 @@ fn same_walks() -> [LongDay; 3] {
     let mut quoted = all_but_one("the same as quotes, refused, full queue");
     let mut given = all_but_one("the same as quotes, given, full queue");
     let most = most_units(&refused, LAST_DEADLINE);
-    refused.offer(b"job", [1, most, LAST_DEADLINE], None);
-    quoted.offer(b"job", [1, most, LAST_DEADLINE], None);
+    let last = Offer::new(1, most, LAST_DEADLINE);
+    refused.offer(b"job", last);
+    quoted.offer(b"job", last);
     // With time to spare.
-    given.offer(b"job", [1, most - most / 16, LAST_DEADLINE], None);
+    given.offer(b"job", Offer::new(1, most - most / 16, LAST_DEADLINE));
     while refused.day.lines < QUEUE_LINES {
-        let r = &mut refused.random;
-        let (show, size) = (r.between(1, 8), r.between(20, 400));
-        let fields = [show, size, r.between(100_000, 290_000)];
-        if !refused.gives(fields) && given.gives(fields) {
-            refused.offer(b"job", fields, None);
-            quoted.offer(b"quote", fields, None);
-            given.offer(b"quote", fields, None);
+        let offer = some_offer(&mut refused.random, 100_000..=290_000);
+        if !refused.gives(offer) && given.gives(offer) {
+            refused.offer(b"job", offer);
+            quoted.offer(b"quote", offer);
+            given.offer(b"quote", offer);
         }
     }
     [refused.day, quoted.day, given.day]
@@ -287,20 +268,27 @@ fn same_walks() -> [LongDay; 3] {
 /// The jobs that wait before the last one; offers come before all of them.
 fn all_but_one(name: &'static str) -> Writer {
     let mut writer = Writer::new(name, COSTS);
-    while writer.waiting() + 1 < WAITING {
-        let r = &mut writer.random;
-        let (show, size) = (r.between(1, 8), r.between(20, 400));
-        let fields = [show, size, r.between(300_000, 900_000)];
-        writer.offer(b"job", fields, None);
+    while writer.session.waiting() + 1 < WAITING {
+        let offer = some_offer(&mut writer.random, 300_000..=900_000);
+        writer.offer(b"job", offer);
     }
     writer
+}
+
+fn some_offer(random: &mut Random, deadlines: RangeInclusive<u64>) -> Offer {
+    let (show, size) = (random.between(1, 8), random.between(20, 400));
+    Offer::new(
+        show,
+        size,
+        random.between(*deadlines.start(), *deadlines.end()),
+    )
 }
 
 /// The most units of a job behind all others.
 fn most_units(writer: &Writer, deadline: u64) -> u64 {
     let bits = (0..MOST_UNITS.ilog2()).rev().map(|bit| 1 << bit);
     bits.fold(0, |most, bit| {
-        if writer.gives([1, most + bit, deadline]) {
+        if writer.gives(Offer::new(1, most + bit, deadline)) {
             most + bit
         } else {
             most
@@ -312,14 +300,14 @@ fn most_units(writer: &Writer, deadline: u64) -> u64 {
 fn short_lines(lines: usize) -> LongDay {
     let mut writer = Writer::new("short lines, few jobs waiting", COSTS);
     while writer.day.lines < lines {
-        let (show, clock) = (writer.random.between(1, 8), writer.clock());
+        let (show, clock) = (writer.random.between(1, 8), writer.session.clock());
         match writer.random.between(0, 9) {
             0..=3 => writer.line(b"account", &[show]),
             4..=6 => writer.line(b"clock", &[clock + show]),
-            7 => writer.line(b"job", &[show, MOST_UNITS, clock + 9]),
+            7 => writer.offer(b"job", Offer::new(show, MOST_UNITS, clock + 9)),
             8 => writer.line(b"account", &[show + 8]),
-            _ if writer.starts().len() < 4 => {
-                writer.line(b"job", &[show, show, clock + 5_000]);
+            _ if writer.session.starts().len() < 4 => {
+                writer.offer(b"job", Offer::new(show, show, clock + 5_000));
             }
             _ => writer.line(b"clock", &[]),
         }
@@ -332,9 +320,9 @@ fn short_lines(lines: usize) -> LongDay {
 fn catalogue(lines: usize) -> LongDay {
     let mut writer = Writer::new("long numbers, few jobs waiting", COSTS);
     while writer.day.lines < lines {
-        let (show, clock) = (writer.random.between(1, 8), writer.clock());
-        let fields = [show, 9 * show, clock + 5_000];
-        match (writer.random.between(0, 29), &writer.numbers()[..]) {
+        let (show, clock) = (writer.random.between(1, 8), writer.session.clock());
+        let fields = Offer::new(show, 9 * show, clock + 5_000).fields();
+        match (writer.random.between(0, 29), &writer.session.numbers()[..]) {
             (0..=21, _) => writer.line_of_long_numbers(b"account", &[show]),
             (22..=26, _) => writer.line_of_long_numbers(b"clock", &[clock + 90 * show]),
             (27, &[job, ..]) => writer.line_of_long_numbers(b"withdraw", &[job]),
@@ -349,10 +337,10 @@ fn catalogue(lines: usize) -> LongDay {
 fn long_runs(lines: usize) -> LongDay {
     let mut writer = Writer::new("long runs without a separator", COSTS);
     while writer.day.lines < lines {
-        let (show, clock) = (writer.random.between(1, 8), writer.clock());
+        let (show, clock) = (writer.random.between(1, 8), writer.session.clock());
         match writer.random.between(0, 3) {
             0 => writer.line(b"clock", &[clock + 90 * show]),
-            1 => writer.line(b"job", &[show, 9 * show, clock + 5_000]),
+            1 => writer.offer(b"job", Offer::new(show, 9 * show, clock + 5_000)),
             _ => writer.line(b"account", &[show]),
         }
         let r = &mut writer.random;

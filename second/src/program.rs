@@ -1,6 +1,6 @@
 //! The program: lines in, answers out.
 
-use crate::farm::Farm;
+use crate::farm::{Accepted, Farm, Offer};
 use crate::job::{Record, Walk};
 use crate::limits::{LENT_RECORDS, MOST_LINE_BYTES};
 use crate::quick::Quick;
@@ -54,23 +54,17 @@ impl<W: Walk> Session<W> {
                 text::print(answers, b"open", &[nodes, farm.show_count()]);
                 self.farm = Some(farm);
             }
-            (b"job" | b"quote", &[show, size, deadline, ref rest @ ..], Some(farm))
-                if rest.len() <= 1 =>
-            {
-                let compute = rest.first().copied();
-                let (word, given) = if kind == b"quote" {
-                    (kind, farm.quote(show, size, deadline, compute)?)
-                } else {
-                    (&b"yes"[..], farm.offer(show, size, deadline, compute)?)
-                };
-                let fields = [given.job, given.start, given.finish, given.nodes as u64];
-                text::print(answers, word, &fields);
+            (b"job", fields, Some(farm)) => {
+                let accepted = farm.offer(read_offer(fields)?)?;
+                print_accepted(answers, b"yes", accepted);
+            }
+            (b"quote", fields, Some(farm)) => {
+                let accepted = farm.quote(read_offer(fields)?)?;
+                print_accepted(answers, b"quote", accepted);
             }
             (b"clock", &[time], Some(farm)) => {
                 let issued = farm.move_clock(time, &mut self.timetable)?;
-                for record in &self.timetable[..issued] {
-                    print_record(answers, record);
-                }
+                print_chunks(answers, &self.timetable[..issued]);
                 text::print(answers, b"clock", &[time, issued as u64]);
             }
             (b"withdraw", &[job], Some(farm)) => {
@@ -96,18 +90,67 @@ impl<W: Walk> Session<W> {
     }
 }
 
-fn print_record(answers: &mut Vec<u8>, record: &Record) {
-    let fields = [
-        record.job,
-        record.show,
-        record.node,
-        record.units,
-        record.send_start,
-        record.send_end,
-        record.finish,
-        record.compute_end,
-    ];
-    text::print(answers, b"chunk", &fields);
+// What the farm shows; of one that is not opened yet every figure is 0.
+impl<W: Walk> Session<W> {
+    pub fn clock(&self) -> u64 {
+        self.farm().map_or(0, Farm::clock)
+    }
+
+    pub fn show_count(&self) -> u64 {
+        self.farm().map_or(0, Farm::show_count)
+    }
+
+    /// The greatest job number so far.
+    pub fn numbers_used(&self) -> u64 {
+        self.farm().map_or(0, Farm::numbers_used)
+    }
+
+    pub fn waiting(&self) -> usize {
+        self.farm().map_or(0, Farm::waiting)
+    }
+
+    /// The waiting jobs' numbers, in the plan's order.
+    pub fn numbers(&self) -> Vec<u64> {
+        self.farm().into_iter().flat_map(Farm::numbers).collect()
+    }
+
+    /// The waiting jobs' starts, in order.
+    pub fn starts(&self) -> Vec<u64> {
+        self.farm().into_iter().flat_map(Farm::starts).collect()
+    }
+
+    /// The last waiting job's start, or the clock where none waits.
+    pub fn last_start(&self) -> u64 {
+        let last = self.farm().and_then(|farm| farm.starts().last());
+        last.unwrap_or(self.clock())
+    }
+}
+
+fn read_offer(fields: &[u64]) -> Result<Offer, Refusal> {
+    Offer::from_fields(fields).ok_or(Refusal::Unreadable)
+}
+
+/// An offer and a quote are answered alike but for the word.
+fn print_accepted(answers: &mut Vec<u8>, word: &[u8], accepted: Accepted) {
+    let nodes = accepted.nodes as u64;
+    let fields = [accepted.job, accepted.start, accepted.finish, nodes];
+    text::print(answers, word, &fields);
+}
+
+fn print_chunks(answers: &mut Vec<u8>, records: &[Record]) {
+    for record in records {
+        let fields = [
+            record.job,
+            record.show,
+            record.node,
+            record.units,
+            record.send_start,
+            record.send_end,
+            record.finish,
+            record.compute_end,
+        ];
+        text::print(answers, b"chunk", &fields);
+    }
 }
 
 /// Cuts blocks of bytes into lines and answers them.
@@ -203,8 +246,13 @@ pub fn run<W: Walk>(mut input: impl Read, mut output: impl Write) -> io::Result<
 
 /// The quick walk's answers to a whole day.
 pub fn answers(day: &[u8]) -> Vec<u8> {
+    answers_by::<Quick>(day)
+}
+
+/// Any walk's answers to a whole day.
+pub fn answers_by<W: Walk>(day: &[u8]) -> Vec<u8> {
     let mut answers = Vec::new();
     // Reading a slice and writing a vector cannot fail.
-    let _ = run::<Quick>(day, &mut answers);
+    let _ = run::<W>(day, &mut answers);
     answers
 }

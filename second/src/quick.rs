@@ -1,16 +1,16 @@
 //! The quick walk, earliest deadline first.
 //!
-//! Jobs before the new one in deadline order keep their bookings, and only the
-//! jobs after it are booked again. A walk over them would give the same: they
-//! start after the clock, so a later clock takes no start from them and adds
-//! none before, and jobs begin from the front of the plan, so the free times
-//! they meet are the ones they met before. Each is booked by its own costs, so
-//! the new job's make no difference to them.
+//! Jobs before the new one in deadline order keep their bookings, all of them
+//! where there is none, and only the jobs after it are booked again. A walk over
+//! them would give the same: they start after the clock, so a later clock takes no
+//! start from them and adds none before, and jobs begin from the front of the
+//! plan, so the free times they meet are the ones they met before. Each is booked
+//! by its own costs, so the new job's make no difference to them.
 //!
 //! Since the last walk a job may have been withdrawn. Those behind it then meet
 //! other free times, so none of them is kept: one may move, or even fail.
 
-use crate::job::{Begun, Booking, Chunk, Job, Plan, Walk, Walked};
+use crate::job::{Begun, Booking, Chunk, Job, Plan, Queue, Walk, Walked};
 use crate::node::{FreeNode, MovingRanking};
 use crate::share::Windows;
 
@@ -25,15 +25,14 @@ pub struct Quick {
     taken: Vec<FreeNode>,
 }
 
-/// The same walk with no booking kept: every waiting job is booked again. It is
+/// The same walk with no booking kept: every job of the queue is booked. It is
 /// there to be timed beside a planner that keeps none.
 #[derive(Clone, Debug, Default)]
 pub struct Whole(Quick);
 
 impl Walk for Quick {
-    fn book(&mut self, begun: &Begun, plan: &Plan, new: Job) -> bool {
-        let kept = place_of(plan, new).min(plan.as_walked);
-        self.book_behind(begun, plan, new, kept)
+    fn book(&mut self, begun: &Begun, queue: Queue) -> bool {
+        self.book_behind(begun, queue, queue.as_walked())
     }
 
     fn walked(&self) -> &Walked {
@@ -42,8 +41,8 @@ impl Walk for Quick {
 }
 
 impl Walk for Whole {
-    fn book(&mut self, begun: &Begun, plan: &Plan, new: Job) -> bool {
-        self.0.book_behind(begun, plan, new, 0)
+    fn book(&mut self, begun: &Begun, queue: Queue) -> bool {
+        self.0.book_behind(begun, queue, 0)
     }
 
     fn walked(&self) -> &Walked {
@@ -51,24 +50,13 @@ impl Walk for Whole {
     }
 }
 
-/// Where the new job stands among the waiting ones: behind equal deadlines.
-fn place_of(plan: &Plan, new: Job) -> usize {
-    plan.bookings
-        .partition_point(|b| b.job.deadline <= new.deadline)
-}
-
 impl Quick {
-    /// Books the waiting jobs and the new one behind the first bookings, which
-    /// are kept.
-    fn book_behind(&mut self, begun: &Begun, plan: &Plan, new: Job, kept: usize) -> bool {
-        let place = place_of(plan, new);
-        self.begin(begun, plan, kept);
-        let earlier = plan.bookings.range(kept..place).map(|b| b.job);
-        let later = plan.bookings.range(place..).map(|b| b.job);
+    /// Books the jobs behind the plan's first bookings, which are kept.
+    fn book_behind(&mut self, begun: &Begun, queue: Queue, kept: usize) -> bool {
+        self.begin(begun, queue.plan, kept);
         // Worked out again only where a job's costs differ from the last one's.
         let mut windows = begun.windows;
-        let mut jobs = earlier.chain(std::iter::once(new)).chain(later);
-        jobs.all(|job| {
+        queue.jobs_behind(kept).all(|job| {
             windows.change(job.costs(begun.windows.costs()));
             self.book_next(&windows, job)
         })

@@ -35,6 +35,20 @@ impl Random {
         row[self.place(row.len())]
     }
 
+    /// A number at a limit, rarely beyond it, or anywhere between.
+    pub fn near(&mut self, least: u64, greatest: u64) -> u64 {
+        match self.between(0, 39) {
+            0 => least.saturating_sub(1),
+            1 => greatest + 1,
+            2..=9 => least,
+            10..=17 => greatest,
+            18..=22 => least + 1,
+            23..=27 => greatest - 1,
+            28..=33 => self.between(least, greatest),
+            _ => self.of_any_length(greatest).max(least),
+        }
+    }
+
     /// A number up to `greatest` whose length in bits is random too.
     pub fn of_any_length(&mut self, greatest: u64) -> u64 {
         let bits = self.between(0, u64::from(greatest.ilog2()) + 1);

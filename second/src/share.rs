@@ -36,6 +36,11 @@ impl Costs {
         }
     }
 
+    /// The same with another p.
+    pub fn with_compute(self, compute: u64) -> Self {
+        Costs { compute, ..self }
+    }
+
     /// What a chunk takes on the link.
     #[inline]
     pub fn send_ticks(self, units: u64) -> u64 {

@@ -34,6 +34,14 @@ pub fn print(answers: &mut Vec<u8>, kind: &[u8], numbers: &[u64]) {
     answers.push(b'\n');
 }
 
+/// The same as a line of input, without its newline.
+pub fn line(kind: &[u8], numbers: &[u64]) -> Vec<u8> {
+    let mut line = Vec::new();
+    print(&mut line, kind, numbers);
+    line.pop();
+    line
+}
+
 fn print_number(answers: &mut Vec<u8>, number: u64) {
     let mut digits = [0; 20];
     let mut first = digits.len();

@@ -5,10 +5,10 @@ mod common;
 use common::{check, tabs};
 use second::days::day;
 use second::exhaustive::Exhaustive;
-use second::farm::Farm;
+use second::farm::{Farm, Offer};
 use second::job::Record;
 use second::limits::*;
-use second::program::{answers, run, Session};
+use second::program::{answers, answers_by, Session};
 use second::quick::{Quick, Whole};
 use second::refusal::Refusal;
 use second::share::Costs;
@@ -110,15 +110,18 @@ fn the_questions_are_asked_in_order() {
 fn a_full_queue_is_asked_after_p_and_before_the_walk() {
     let mut farm = Farm::<Quick>::open(2, Costs::new(1, 1, 0, 0, 0), &[0]).unwrap();
     for job in 0..MOST_WAITING as u64 {
-        farm.offer(1, 1, 1_000, Some(1 + job % 3)).unwrap();
+        let offer = Offer::new(1, 1, 1_000).with_compute(1 + job % 3);
+        farm.offer(offer).unwrap();
     }
-    let costs = Err(Refusal::Costs);
-    assert_eq!(farm.offer(1, 1, 1_000, Some(0)), costs);
-    assert_eq!(farm.offer(1, 1, 0, Some(MOST_COMPUTE_COST + 1)), costs);
-    assert_eq!(farm.offer(1, 1, 0, Some(1)), Err(Refusal::Deadline));
-    let full = Err(Refusal::QueueFull);
-    assert_eq!(farm.offer(1, 1, 1, Some(1)), full);
-    assert_eq!(farm.offer(1, 1, 1_000, Some(2)), full);
+    let mut refusal = |deadline, compute| {
+        let offer = Offer::new(1, 1, deadline).with_compute(compute);
+        farm.offer(offer).unwrap_err()
+    };
+    assert_eq!(refusal(1_000, 0), Refusal::Costs);
+    assert_eq!(refusal(0, MOST_COMPUTE_COST + 1), Refusal::Costs);
+    assert_eq!(refusal(0, 1), Refusal::Deadline);
+    assert_eq!(refusal(1, 1), Refusal::QueueFull);
+    assert_eq!(refusal(1_000, 2), Refusal::QueueFull);
 }
 
 /// The farm's p at one limit and the job's at the other.
@@ -126,21 +129,23 @@ fn a_full_queue_is_asked_after_p_and_before_the_walk() {
 fn p_has_the_tables_limits() {
     let mut least = Farm::<Quick>::open(1, Costs::new(1, 1, 0, 0, 0), &[0]).unwrap();
     for compute in [0, MOST_COMPUTE_COST + 1, LONGEST] {
-        let offer = least.offer(1, 1, LAST_TICK, Some(compute));
-        assert_eq!(offer, Err(Refusal::Costs));
+        let offer = Offer::new(1, 1, LAST_TICK).with_compute(compute);
+        assert_eq!(least.offer(offer), Err(Refusal::Costs));
     }
     // 999,999 * (1 + 1,000,000) = 999,999,999,999.
-    let most = Some(MOST_COMPUTE_COST);
+    let dear = Offer::new(1, 999_999, LAST_TICK - 1).with_compute(MOST_COMPUTE_COST);
     let refused = Err(Refusal::NotBookable);
-    assert_eq!(least.offer(1, 999_999, LAST_TICK - 2, most), refused);
-    let yes = least.offer(1, 999_999, LAST_TICK - 1, most).unwrap();
+    assert_eq!(least.offer(dear.by(LAST_TICK - 2)), refused);
+    let yes = least.offer(dear).unwrap();
     assert_eq!((yes.start, yes.finish), (0, LAST_TICK - 1));
 
     let costs = Costs::new(1, MOST_COMPUTE_COST, 0, 0, 0);
     let mut greatest = Farm::<Quick>::open(1, costs, &[0]).unwrap();
-    assert_eq!(greatest.offer(1, MOST_UNITS, LAST_TICK, None), refused);
-    assert_eq!(greatest.offer(1, MOST_UNITS, 1_999_999, Some(1)), refused);
-    let yes = greatest.offer(1, MOST_UNITS, 2_000_000, Some(1)).unwrap();
+    let large = Offer::new(1, MOST_UNITS, LAST_TICK);
+    assert_eq!(greatest.offer(large), refused);
+    let cheap = large.with_compute(1);
+    assert_eq!(greatest.offer(cheap.by(1_999_999)), refused);
+    let yes = greatest.offer(cheap.by(2_000_000)).unwrap();
     assert_eq!((yes.start, yes.finish), (0, 2_000_000));
 }
 
@@ -203,8 +208,7 @@ fn an_absent_p_is_the_farms() {
 fn kept_bookings_are_those_of_a_whole_walk() {
     for seed in 0..160 {
         let day = day(seed);
-        let mut whole = Vec::new();
-        run::<Whole>(&day[..], &mut whole).unwrap();
+        let whole = answers_by::<Whole>(&day);
         assert!(answers(&day) == whole, "seed {seed}");
     }
 }
@@ -212,8 +216,7 @@ fn kept_bookings_are_those_of_a_whole_walk() {
 /// The mixed day by hand again, by trying everything.
 #[test]
 fn the_exhaustive_walk_books_by_own_p() {
-    let mut given = Vec::new();
-    run::<Exhaustive>(&tabs(MIXED)[..], &mut given).unwrap();
+    let given = answers_by::<Exhaustive>(&tabs(MIXED));
     assert_eq!(given, tabs(MIXED_ANSWERS));
 }
 
@@ -225,10 +228,11 @@ fn lines_take_what_the_jobs_own_costs_say() {
     let mut lines = [Record::default(); LENT_RECORDS];
     // By job number, from 1.
     let mut computes = vec![0];
-    for offer in 0..200 {
-        let compute = (offer % 3 > 0).then_some(1 + offer * 7 % 45);
-        let deadline = farm.clock() + 150 + offer * 37 % 400;
-        if farm.offer(1, 1 + offer % 9, deadline, compute).is_ok() {
+    for turn in 0..200 {
+        let compute = (turn % 3 > 0).then_some(1 + turn * 7 % 45);
+        let deadline = farm.clock() + 150 + turn * 37 % 400;
+        let offer = Offer::new(1, 1 + turn % 9, deadline).with_compute(compute);
+        if farm.offer(offer).is_ok() {
             computes.push(compute.unwrap_or(costs.compute));
         }
         let count = farm.show_waiting(&mut lines).unwrap();
@@ -238,7 +242,7 @@ fn lines_take_what_the_jobs_own_costs_say() {
                 && line.finish == line.send_end + costs.node_setup + line.units * compute
                 && line.compute_end == line.finish
         }));
-        if offer % 4 == 0 {
+        if turn % 4 == 0 {
             let time = farm.clock() + 60;
             farm.move_clock(time, &mut lines).unwrap();
         }

@@ -2,31 +2,24 @@
 
 mod common;
 
-use common::{check, tabs};
+use common::{check, read, tabs};
 use second::days::{day, tiny_day};
 use second::exhaustive::Exhaustive;
-use second::farm::Farm;
+use second::farm::{Farm, Offer};
 use second::job::{Record, Walk};
 use second::limits::*;
-use second::program::{run, Session};
+use second::program::{answers_by, Session};
 use second::quick::{Quick, Whole};
 use second::random::Random;
 use second::refusal::Refusal;
 use second::share::Costs;
-use second::text::read_line;
 use std::collections::BTreeMap;
-
-fn answers_by<W: Walk>(day: &str) -> Vec<u8> {
-    let mut given = Vec::new();
-    run::<W>(&tabs(day)[..], &mut given).unwrap();
-    given
-}
 
 /// By every walk.
 fn check_all(day: &str, expected: &str) {
     check(day, expected);
-    assert_eq!(answers_by::<Whole>(day), tabs(expected));
-    assert_eq!(answers_by::<Exhaustive>(day), tabs(expected));
+    assert_eq!(answers_by::<Whole>(&tabs(day)), tabs(expected));
+    assert_eq!(answers_by::<Exhaustive>(&tabs(day)), tabs(expected));
 }
 
 /// The paper's listing: r is 0, so computing ends with the chunk, at 6 + 6 * 2 = 18,
@@ -192,8 +185,8 @@ fn record(numbers: [u64; 8]) -> Record {
 #[test]
 fn chunks_are_shown_as_they_are_issued() {
     let mut farm = Farm::<Quick>::open(2, Costs::new(2, 3, 10, 20, 5), &[0]).unwrap();
-    farm.offer(1, 4, 69, None).unwrap();
-    farm.offer(1, 1, 94, Some(1)).unwrap();
+    farm.offer(Offer::new(1, 4, 69)).unwrap();
+    farm.offer(Offer::new(1, 1, 94).with_compute(1)).unwrap();
     let former = record([9; 8]);
     let expected = [
         record([1, 1, 1, 3, 0, 16, 60, 45]),
@@ -236,7 +229,8 @@ fn issued_by_own_cost<W: Walk>(seed: u64, most_units: u64) -> usize {
         let own = random.between(1, 18);
         let compute = random.once_in(2).then_some(own);
         let (size, wait) = (random.between(1, most_units), random.between(10, 150));
-        if farm.offer(1, size, farm.clock() + wait, compute).is_ok() {
+        let offer = Offer::new(1, size, farm.clock() + wait).with_compute(compute);
+        if farm.offer(offer).is_ok() {
             computes.push(compute.unwrap_or(p));
         }
         let mut shown = [Record::default(); LENT_RECORDS];
@@ -263,13 +257,6 @@ fn random_farms_end_computing_as_the_costs_say() {
     let tried = (0..100).map(|s| issued_by_own_cost::<Exhaustive>(s, 5));
     let tried: usize = tried.sum();
     assert!(tried > 300, "only {tried} chunks");
-}
-
-/// The kind and numbers of a line; no kind where it cannot be read.
-fn read(line: &[u8]) -> (&[u8], Vec<u64>) {
-    let mut numbers = Vec::new();
-    let kind = read_line(line, &mut numbers).unwrap_or_default();
-    (kind, numbers)
 }
 
 /// What the chunks of a day tell from what.

@@ -1,6 +1,6 @@
 //! The greatest figures, in a build that stops at an overflow.
 
-use second::farm::Farm;
+use second::farm::{Farm, Offer};
 use second::job::Record;
 use second::limits::*;
 use second::quick::Quick;
@@ -25,14 +25,12 @@ fn the_greatest_job_at_the_greatest_costs() {
     for costs in [GREATEST, GREATEST_BUT_R] {
         let mut farm = Farm::<Quick>::open(64, costs, &[LAST_TICK; 32]).unwrap();
         // One node would need 1,020,002,000,000 ticks, without r 1,010,002,000,000.
-        let yes = farm.offer(32, MOST_UNITS, LAST_TICK, None).unwrap();
+        let yes = farm.offer(Offer::new(32, MOST_UNITS, LAST_TICK)).unwrap();
         assert_eq!((yes.start, yes.nodes), (0, 2));
         let mut one = Farm::<Quick>::open(1, costs, &[0]).unwrap();
-        assert_eq!(
-            one.offer(1, MOST_UNITS, LAST_TICK, None),
-            Err(Refusal::NotBookable)
-        );
-        assert!(one.offer(1, 900_000, LAST_TICK, None).is_ok());
+        let most = Offer::new(1, MOST_UNITS, LAST_TICK);
+        assert_eq!(one.offer(most), Err(Refusal::NotBookable));
+        assert!(one.offer(Offer::new(1, 900_000, LAST_TICK)).is_ok());
     }
 }
 
@@ -45,7 +43,7 @@ fn held_ticks_fill_all_nodes() {
 fn held_ticks_fill_all_nodes_at(costs: Costs) {
     let mut farm = Farm::<Quick>::open(64, costs, &[7]).unwrap();
     let mut granted = 0;
-    while farm.offer(1, MOST_UNITS, LAST_TICK, None).is_ok() {
+    while farm.offer(Offer::new(1, MOST_UNITS, LAST_TICK)).is_ok() {
         granted += 1;
     }
     assert!(granted > 20, "only {granted} jobs granted");
@@ -58,7 +56,8 @@ fn held_ticks_fill_all_nodes_at(costs: Costs) {
     let account = farm.account(1).unwrap();
     assert!(account.held > 30 * LAST_TICK && account.held <= 64 * LAST_TICK);
     assert_eq!(account.charged, account.held - 7);
-    assert_eq!(farm.offer(1, 1, LAST_TICK, None), Err(Refusal::Deadline));
+    let too_late = Offer::new(1, 1, LAST_TICK);
+    assert_eq!(farm.offer(too_late), Err(Refusal::Deadline));
     assert_eq!(farm.move_clock(LAST_TICK, &mut lines), Ok(0));
 }
 
@@ -67,11 +66,10 @@ fn the_least_costs_and_the_last_ticks() {
     let least = Costs::new(1, 1, 0, 0, 0);
     let mut farm = Farm::<Quick>::open(64, least, &[0]).unwrap();
     farm.move_clock(LAST_TICK - 2, &mut []).unwrap();
-    assert_eq!(
-        farm.offer(1, 1, LAST_TICK - 1, None),
-        Err(Refusal::NotBookable)
-    );
-    let yes = farm.offer(1, 1, LAST_TICK, None).unwrap();
+    let unit = Offer::new(1, 1, LAST_TICK);
+    let sooner = unit.by(LAST_TICK - 1);
+    assert_eq!(farm.offer(sooner), Err(Refusal::NotBookable));
+    let yes = farm.offer(unit).unwrap();
     assert_eq!((yes.start, yes.finish), (LAST_TICK - 2, LAST_TICK));
     let refused = Err(Refusal::TimetableFull);
     assert_eq!(farm.move_clock(LAST_TICK, &mut []), refused);

@@ -5,10 +5,10 @@ mod common;
 use common::{check, tabs};
 use second::days::{day, tiny_day};
 use second::exhaustive::Exhaustive;
-use second::farm::Farm;
+use second::farm::{Farm, Offer};
 use second::job::Record;
 use second::limits::*;
-use second::program::{run, Session};
+use second::program::{answers_by, Session};
 use second::quick::Quick;
 use second::random::Random;
 use second::refusal::Refusal;
@@ -19,8 +19,7 @@ use std::collections::BTreeMap;
 /// By the quick walk and by trying everything.
 fn check_both(day: &str, expected: &str) {
     check(day, expected);
-    let mut tried = Vec::new();
-    run::<Exhaustive>(&tabs(day)[..], &mut tried).unwrap();
+    let tried = answers_by::<Exhaustive>(&tabs(day));
     assert_eq!(tried, tabs(expected));
 }
 
@@ -188,7 +187,7 @@ fn a_withdrawn_job_holds_nothing() {
 #[test]
 fn a_refused_move_holds_nothing() {
     let mut farm = Farm::<Quick>::open(3, Costs::new(1, 2, 0, 0, 0), &[30]).unwrap();
-    farm.offer(1, 10, 18, None).unwrap();
+    farm.offer(Offer::new(1, 10, 18)).unwrap();
     let mut lines = [Record::default(); 2];
     let full = Err(Refusal::TimetableFull);
     assert_eq!(farm.move_clock(0, &mut lines[..1]), full);
@@ -206,7 +205,7 @@ fn held_ticks_close_to_their_limit() {
     let costs = Costs::new(1, MOST_COMPUTE_COST, 0, 0, 0);
     let mut farm = Farm::<Quick>::open(64, costs, &[LAST_TICK]).unwrap();
     for _ in 0..63 {
-        let yes = farm.offer(1, MOST_UNITS, LAST_TICK, None).unwrap();
+        let yes = farm.offer(Offer::new(1, MOST_UNITS, LAST_TICK)).unwrap();
         assert!(yes.nodes > 1);
     }
     let mut lines = [Record::default(); LENT_RECORDS];
@@ -240,7 +239,8 @@ fn held_ticks_are_setups_and_units() {
             let compute = random.once_in(2).then_some(own);
             let (show, size) = (random.between(1, 2), random.between(1, 60));
             let deadline = farm.clock() + random.between(50, 3_000);
-            if farm.offer(show, size, deadline, compute).is_ok() {
+            let offer = Offer::new(show, size, deadline).with_compute(compute);
+            if farm.offer(offer).is_ok() {
                 computes.push(compute.unwrap_or(p));
             }
             let time = farm.clock() + random.between(0, 200);

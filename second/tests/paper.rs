@@ -3,7 +3,7 @@
 mod common;
 
 use common::{check, tabs};
-use second::farm::{Accepted, Farm};
+use second::farm::{Accepted, Farm, Offer};
 use second::job::Record;
 use second::program::answers;
 use second::quick::Quick;
@@ -47,13 +47,13 @@ fn windows_a_to_j() {
     ];
     for (case, (costs, size, deadline, expected)) in ('A'..).zip(windows) {
         let mut farm = open(3, costs);
+        let answer = farm.offer(Offer::new(1, size, deadline));
         let Some((finish, shares)) = expected else {
-            let refused = Err(Refusal::NotBookable);
-            assert_eq!(farm.offer(1, size, deadline, None), refused, "case {case}");
+            assert_eq!(answer, Err(Refusal::NotBookable), "case {case}");
             continue;
         };
         let yes = accepted(1, 0, finish, shares.len());
-        assert_eq!(farm.offer(1, size, deadline, None), Ok(yes), "case {case}");
+        assert_eq!(answer, Ok(yes), "case {case}");
         let mut lines = [Record::default(); 3];
         let count = farm.show_waiting(&mut lines).unwrap();
         let units: Vec<u64> = lines[..count].iter().map(|line| line.units).collect();
@@ -65,34 +65,29 @@ fn windows_a_to_j() {
 #[test]
 fn case_j_on_all_node_counts() {
     for nodes in 1..=64 {
-        let refused = Err(Refusal::NotBookable);
-        assert_eq!(open(nodes, [1, 2, 2, 1]).offer(1, 3, 9, None), refused);
+        let answer = open(nodes, [1, 2, 2, 1]).offer(Offer::new(1, 3, 9));
+        assert_eq!(answer, Err(Refusal::NotBookable));
     }
-    assert!(open(4, [1, 2, 0, 0]).offer(1, 10, 14, None).is_ok());
+    assert!(open(4, [1, 2, 0, 0]).offer(Offer::new(1, 10, 14)).is_ok());
 }
 
 /// Case D's second node is free at 14, before the job's finish at 15.
 #[test]
 fn a_node_is_free_at_its_own_finish() {
     let mut farm = open(3, [1, 2, 0, 0]);
-    farm.offer(1, 10, 17, None).unwrap();
-    assert_eq!(farm.offer(1, 1, 17, None), Ok(accepted(2, 14, 17, 1)));
+    farm.offer(Offer::new(1, 10, 17)).unwrap();
+    assert_eq!(farm.offer(Offer::new(1, 1, 17)), Ok(accepted(2, 14, 17, 1)));
 }
 
 #[test]
 fn windows_k_to_m() {
     let mut farm = open(3, [1, 2, 0, 0]);
-    farm.offer(1, 10, 18, None).unwrap();
-    farm.offer(1, 3, 20, None).unwrap();
-    assert_eq!(
-        farm.clone().offer(1, 2, 24, None),
-        Ok(accepted(3, 18, 24, 1))
-    );
-    assert_eq!(
-        farm.clone().offer(1, 2, 22, None),
-        Ok(accepted(3, 18, 22, 2))
-    );
-    assert_eq!(farm.offer(1, 2, 21, None), Err(Refusal::NotBookable));
+    farm.offer(Offer::new(1, 10, 18)).unwrap();
+    farm.offer(Offer::new(1, 3, 20)).unwrap();
+    let answer = |deadline| farm.clone().offer(Offer::new(1, 2, deadline));
+    assert_eq!(answer(24), Ok(accepted(3, 18, 24, 1)));
+    assert_eq!(answer(22), Ok(accepted(3, 18, 22, 2)));
+    assert_eq!(answer(21), Err(Refusal::NotBookable));
 }
 
 fn open(nodes: u64, costs: [u64; 4]) -> Farm<Quick> {

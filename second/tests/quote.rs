@@ -2,13 +2,13 @@
 
 mod common;
 
-use common::{check, tabs};
+use common::{check, tabs, waiting};
 use second::days::{day, tiny_day};
 use second::exhaustive::Exhaustive;
-use second::farm::Farm;
+use second::farm::{Farm, Offer};
 use second::job::{Record, Walk};
 use second::limits::*;
-use second::program::{run, Session};
+use second::program::{answers_by, Session};
 use second::quick::{Quick, Whole};
 use second::random::Random;
 use second::refusal::Refusal;
@@ -196,27 +196,30 @@ fn a_quote_is_refused_as_an_offer_is() {
 #[test]
 fn a_full_queue_gives_no_quote() {
     let mut farm = Farm::<Quick>::open(2, Costs::new(1, 1, 0, 0, 0), &[0]).unwrap();
+    let unit = Offer::new(1, 1, 1_000);
     for _ in 1..MOST_WAITING {
-        farm.offer(1, 1, 1_000, None).unwrap();
+        farm.offer(unit).unwrap();
     }
     // 127 jobs wait, however often the last place is quoted.
     for _ in 0..3 {
-        let given = farm.quote(1, 1, 1_000, None).unwrap();
+        let given = farm.quote(unit).unwrap();
         assert_eq!((given.job, given.start, given.finish), (128, 127, 129));
     }
-    farm.offer(1, 1, 1_000, None).unwrap();
+    farm.offer(unit).unwrap();
     let full = Err(Refusal::QueueFull);
-    assert_eq!(farm.quote(1, 1, 1_000, None), full);
+    assert_eq!(farm.quote(unit), full);
     // Asked after the deadline and before the walk.
-    assert_eq!(farm.quote(1, 1, 1_001, Some(0)), Err(Refusal::Costs));
-    assert_eq!(farm.quote(1, 1, 0, None), Err(Refusal::Deadline));
-    assert_eq!(farm.quote(1, 1_000, 1, None), full);
+    let wrong_compute = unit.by(1_001).with_compute(0);
+    assert_eq!(farm.quote(wrong_compute), Err(Refusal::Costs));
+    assert_eq!(farm.quote(unit.by(0)), Err(Refusal::Deadline));
+    let too_large = Offer::new(1, 1_000, 1);
+    assert_eq!(farm.quote(too_large), full);
     farm.withdraw(1).unwrap();
-    assert_eq!(farm.quote(1, 1_000, 1, None), Err(Refusal::NotBookable));
-    let given = farm.quote(1, 1, 1_000, None);
+    assert_eq!(farm.quote(too_large), Err(Refusal::NotBookable));
+    let given = farm.quote(unit);
     assert_eq!(given.unwrap().job, 129);
-    assert_eq!(farm.offer(1, 1, 1_000, None), given);
-    assert_eq!(farm.quote(1, 1, 1_000, None), full);
+    assert_eq!(farm.offer(unit), given);
+    assert_eq!(farm.quote(unit), full);
 }
 
 #[test]
@@ -252,9 +255,8 @@ fn a_quote_needs_a_farm_and_an_offers_numbers() {
 
 #[test]
 fn the_other_walks_quote_alike() {
-    let (mut whole, mut exhaustive) = (Vec::new(), Vec::new());
-    run::<Whole>(&tabs(LISTING)[..], &mut whole).unwrap();
-    run::<Exhaustive>(&tabs(LISTING)[..], &mut exhaustive).unwrap();
+    let whole = answers_by::<Whole>(&tabs(LISTING));
+    let exhaustive = answers_by::<Exhaustive>(&tabs(LISTING));
     assert_eq!(whole, tabs(LISTING_ANSWERS));
     assert_eq!(exhaustive, whole);
 }
@@ -278,8 +280,9 @@ fn nothing_changes() {
                 }
             }
             let deadline = farm.clock() + random.between(50, 3_000);
+            let (show, size) = (random.between(1, 2), random.between(1, 60));
             // Many are refused; that leaves the farm as it is.
-            let _ = farm.offer(random.between(1, 2), random.between(1, 60), deadline, None);
+            let _ = farm.offer(Offer::new(show, size, deadline));
             if random.once_in(5) {
                 let time = farm.clock() + random.between(0, 200);
                 let mut lines = [Record::default(); LENT_RECORDS];
@@ -301,9 +304,10 @@ fn is_quoted(farm: &mut Farm<Quick>, random: &mut Random) -> bool {
     let deadline = farm.clock() + random.between(0, 3_000);
     let own = random.between(0, 90);
     let compute = random.once_in(2).then_some(own);
-    let told = farm.clone().offer(show, size, deadline, compute);
+    let offer = Offer::new(show, size, deadline).with_compute(compute);
+    let told = farm.clone().offer(offer);
     let before = figures(farm);
-    let quoted = farm.quote(show, size, deadline, compute);
+    let quoted = farm.quote(offer);
     assert_eq!(quoted, told);
     assert_eq!(figures(farm), before);
     quoted.is_ok()
@@ -311,13 +315,10 @@ fn is_quoted(farm: &mut Farm<Quick>, random: &mut Random) -> bool {
 
 /// All that a farm shows, and what it tells a copy of the next offer.
 fn figures(farm: &Farm<Quick>) -> impl PartialEq + std::fmt::Debug {
-    let mut lines = vec![Record::default(); MOST_NODES * MOST_WAITING];
-    let count = farm.show_waiting(&mut lines).unwrap();
-    lines.truncate(count);
     let accounts = [1, 2].map(|show| farm.account(show).unwrap());
-    let next = farm.clone().offer(1, 1, LAST_TICK, None);
+    let next = farm.clone().offer(Offer::new(1, 1, LAST_TICK));
     let numbers = (farm.clock(), farm.numbers_used());
-    (lines, accounts, next, numbers)
+    (waiting(farm), accounts, next, numbers)
 }
 
 fn lines(day: &[u8]) -> impl Iterator<Item = &[u8]> {

@@ -2,13 +2,13 @@
 
 mod common;
 
-use common::{check, tabs};
+use common::{check, read, tabs};
 use second::days::{day, tiny_day};
 use second::exhaustive::Exhaustive;
-use second::farm::Farm;
+use second::farm::{Farm, Offer};
 use second::job::Record;
 use second::limits::*;
-use second::program::{answers, run, Session};
+use second::program::{answers, answers_by, Session};
 use second::quick::Quick;
 use second::share::Costs;
 use second::text;
@@ -59,8 +59,7 @@ fn the_listing_with_a_way_back() {
 /// The same by trying everything.
 #[test]
 fn the_exhaustive_walk_answers_alike() {
-    let mut given = Vec::new();
-    run::<Exhaustive>(&tabs(LISTING)[..], &mut given).unwrap();
+    let given = answers_by::<Exhaustive>(&tabs(LISTING));
     assert_eq!(given, tabs(LISTING_ANSWERS));
 }
 
@@ -239,10 +238,11 @@ fn lines_take_what_the_costs_say() {
     let mut lines = [Record::default(); LENT_RECORDS];
     // By job number, from 1.
     let mut computes = vec![0];
-    for offer in 0..200 {
-        let compute = (offer % 3 > 0).then_some(1 + offer * 7 % 45);
-        let deadline = farm.clock() + 200 + offer * 37 % 500;
-        if farm.offer(1, 1 + offer % 9, deadline, compute).is_ok() {
+    for turn in 0..200 {
+        let compute = (turn % 3 > 0).then_some(1 + turn * 7 % 45);
+        let deadline = farm.clock() + 200 + turn * 37 % 500;
+        let offer = Offer::new(1, 1 + turn % 9, deadline).with_compute(compute);
+        if farm.offer(offer).is_ok() {
             computes.push(compute.unwrap_or(costs.compute));
         }
         let count = farm.show_waiting(&mut lines).unwrap();
@@ -253,7 +253,7 @@ fn lines_take_what_the_costs_say() {
                 && line.compute_end == compute_end
                 && line.finish == compute_end + line.units * 11
         }));
-        if offer % 4 == 0 {
+        if turn % 4 == 0 {
             let time = farm.clock() + 80;
             farm.move_clock(time, &mut lines).unwrap();
         }
@@ -272,27 +272,13 @@ fn lines_and_opening(day: &[u8]) -> (Vec<Vec<u8>>, Option<usize>) {
     (lines, opening)
 }
 
-/// The kind and numbers of a line; no kind where it cannot be read.
-fn read(line: &[u8]) -> (&[u8], Vec<u64>) {
-    let mut numbers = Vec::new();
-    let kind = text::read_line(line, &mut numbers).unwrap_or_default();
-    (kind, numbers)
-}
-
-fn write(kind: &[u8], numbers: &[u64]) -> Vec<u8> {
-    let mut line = Vec::new();
-    text::print(&mut line, kind, numbers);
-    line.pop();
-    line
-}
-
 /// The day with another r; none if it opens no farm.
 fn with_return(day: &[u8], return_cost: u64) -> Option<Vec<u8>> {
     let (mut lines, opening) = lines_and_opening(day);
     let opening = &mut lines[opening?];
     let (_, mut numbers) = read(opening);
     numbers[5] = return_cost;
-    *opening = write(b"farm", &numbers);
+    *opening = text::line(b"farm", &numbers);
     Some(lines.join(&b'\n'))
 }
 
@@ -310,7 +296,7 @@ fn with_dearer_compute(day: &[u8]) -> Option<(Vec<u8>, Vec<u8>, u64)> {
     }
     let mut kept = lines[..=opening].to_vec();
     let mut dearer = lines[..opening].to_vec();
-    dearer.push(write(b"farm", &numbers));
+    dearer.push(text::line(b"farm", &numbers));
     for line in &lines[opening + 1..] {
         match read(line) {
             (kind @ (b"job" | b"quote"), numbers)
@@ -319,7 +305,7 @@ fn with_dearer_compute(day: &[u8]) -> Option<(Vec<u8>, Vec<u8>, u64)> {
                 let own = numbers[3] + return_cost;
                 if is_compute_cost(own) {
                     kept.push(line.clone());
-                    dearer.push(write(kind, &[&numbers[..3], &[own]].concat()));
+                    dearer.push(text::line(kind, &[&numbers[..3], &[own]].concat()));
                 }
             }
             _ => {
@@ -343,7 +329,7 @@ fn answers_with_way_back_computed(day: &[u8], return_cost: u64) -> Vec<u8> {
         .map(|line| match read(line) {
             (b"chunk", mut numbers) => {
                 numbers[7] += numbers[3] * return_cost;
-                write(b"chunk", &numbers)
+                text::line(b"chunk", &numbers)
             }
             _ => line.to_vec(),
         });
@@ -368,8 +354,7 @@ fn r_is_answered_as_a_dearer_p() {
 fn tiny_days_with_any_return_cost_are_answered_alike() {
     for seed in 2_000..2_200 {
         let day = with_return(&tiny_day(seed), 1 + seed % 6).unwrap();
-        let mut tried = Vec::new();
-        run::<Exhaustive>(&day[..], &mut tried).unwrap();
+        let tried = answers_by::<Exhaustive>(&day);
         assert_eq!(answers(&day), tried, "seed {seed}: {}", day.escape_ascii());
     }
 }

@@ -2,13 +2,13 @@
 
 mod common;
 
-use common::{check, tabs};
+use common::{check, tabs, waiting};
 use second::days::{day, tiny_day};
 use second::exhaustive::Exhaustive;
-use second::farm::Farm;
-use second::job::{Begun, Job, Plan, Record, Walk, Walked};
+use second::farm::{Farm, Offer};
+use second::job::{Begun, Plan, Queue, Record, Walk, Walked};
 use second::limits::*;
-use second::program::{run, Session};
+use second::program::{answers_by, Session};
 use second::quick::{Quick, Whole};
 use second::random::Random;
 use second::refusal::Refusal;
@@ -193,29 +193,30 @@ fn a_withdrawal_needs_a_farm_and_one_number() {
 #[test]
 fn a_withdrawal_makes_room_in_a_full_queue() {
     let mut farm = Farm::<Quick>::open(2, Costs::new(1, 1, 0, 0, 0), &[0]).unwrap();
+    let unit = Offer::new(1, 1, 1_000);
     for _ in 0..MOST_WAITING {
-        farm.offer(1, 1, 1_000, None).unwrap();
+        farm.offer(unit).unwrap();
     }
     let full = Err(Refusal::QueueFull);
-    assert_eq!(farm.offer(1, 1, 1_000, None), full);
+    assert_eq!(farm.offer(unit), full);
     assert_eq!(farm.withdraw(129), Err(Refusal::NotWaiting));
-    assert_eq!(farm.offer(1, 1, 1_000, None), full);
+    assert_eq!(farm.offer(unit), full);
     assert_eq!(farm.withdraw(64), Ok(()));
     assert_eq!(farm.starts().last(), Some(127));
-    let yes = farm.offer(1, 1, 1_000, None).unwrap();
+    let yes = farm.offer(unit).unwrap();
     assert_eq!((yes.job, yes.start, yes.finish), (129, 127, 129));
-    assert_eq!(farm.offer(1, 1, 1_000, None), full);
+    assert_eq!(farm.offer(unit), full);
     // With room again the walk answers.
     assert_eq!(farm.withdraw(129), Ok(()));
     let refused = Err(Refusal::NotBookable);
-    assert_eq!(farm.offer(1, 1_000, 1_000, None), refused);
-    assert_eq!(farm.offer(1, 1, 1_000, None).unwrap().job, 130);
+    assert_eq!(farm.offer(Offer::new(1, 1_000, 1_000)), refused);
+    assert_eq!(farm.offer(unit).unwrap().job, 130);
     // All may go, and then all start anew.
     for job in (1..=130).filter(|job| ![64, 129].contains(job)) {
         assert_eq!(farm.withdraw(job), Ok(()));
     }
     assert_eq!(farm.waiting(), 0);
-    let yes = farm.offer(1, 1, 1_000, None).unwrap();
+    let yes = farm.offer(unit).unwrap();
     assert_eq!((yes.job, yes.start, yes.finish), (131, 0, 2));
 }
 
@@ -228,8 +229,7 @@ fn the_exhaustive_walk_answers_alike() {
          clock 2 2\nyes 4 19 21 1\n"
     );
     for (day, expected) in [(FREED, FREED_ANSWERS), (&needed, &needed_answers)] {
-        let mut given = Vec::new();
-        run::<Exhaustive>(&tabs(day)[..], &mut given).unwrap();
+        let given = answers_by::<Exhaustive>(&tabs(day));
         assert_eq!(given, tabs(expected));
     }
 }
@@ -248,7 +248,7 @@ fn nothing_else_changes() {
             let deadline = farm.clock() + random.between(50, 3_000);
             let size = random.between(1, 60);
             // Many are refused; that leaves the farm as it is.
-            let _ = farm.offer(random.between(1, 2), size, deadline, None);
+            let _ = farm.offer(Offer::new(random.between(1, 2), size, deadline));
             if random.once_in(5) {
                 let time = farm.clock() + random.between(0, 200);
                 let mut lines = [Record::default(); LENT_RECORDS];
@@ -281,13 +281,6 @@ fn withdraw_and_look(farm: &mut Farm<Quick>, job: u64) -> bool {
     waits
 }
 
-fn waiting(farm: &Farm<Quick>) -> Vec<Record> {
-    let mut lines = vec![Record::default(); MOST_NODES * MOST_WAITING];
-    let count = farm.show_waiting(&mut lines).unwrap();
-    lines.truncate(count);
-    lines
-}
-
 thread_local! {
     /// Offers refused where the waiting jobs alone cannot be walked.
     static IN_VAIN: Cell<u64> = const { Cell::new(0) };
@@ -298,9 +291,9 @@ thread_local! {
 struct Counting(Quick);
 
 impl Walk for Counting {
-    fn book(&mut self, begun: &Begun, plan: &Plan, new: Job) -> bool {
-        let booked = self.0.book(begun, plan, new);
-        if !booked && !old_jobs_walk(begun, plan) {
+    fn book(&mut self, begun: &Begun, queue: Queue) -> bool {
+        let booked = self.0.book(begun, queue);
+        if !booked && !old_jobs_walk(begun, queue.plan) {
             IN_VAIN.set(IN_VAIN.get() + 1);
         }
         booked
@@ -311,19 +304,21 @@ impl Walk for Counting {
     }
 }
 
-/// Whether the waiting jobs alone can be walked: each is offered behind those
-/// before it, as in a walk.
+/// Whether the waiting jobs alone can be walked. Offering each behind those before it
+/// must come to the same.
 fn old_jobs_walk(begun: &Begun, plan: &Plan) -> bool {
     let mut anew = Plan::default();
     let mut walk = Whole::default();
     let mut jobs = plan.bookings.iter().map(|booking| booking.job);
-    jobs.all(|job| {
-        let booked = walk.book(begun, &anew, job);
+    let one_by_one = jobs.all(|job| {
+        let booked = walk.book(begun, anew.queue(Some(job)));
         if booked {
             anew.follow(walk.walked());
         }
         booked
-    })
+    });
+    assert_eq!(walk.book(begun, plan.queue(None)), one_by_one);
+    one_by_one
 }
 
 /// Offers in vain on a day.
