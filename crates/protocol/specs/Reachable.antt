@@ -1,26 +1,21 @@
 -- The farm of a day: not opened, or reached by a granted opening and calls. Every line keeps it so, and a call on it need not ask question 11.
-use mathlib.Core.Path.{_≡_, refl, sym, subst, _∙_}
+use mathlib.Core.Path.{_≡_, refl, sym, _∙_}
 use mathlib.Core.List.{List, [], _∷_}
 use mathlib.Core.Bool.{Bool, true, false, cond, false≢true}
 use Prim.Native.Nat.{ℕ}
-use lib.Dec.{leb, eqb}
-use lib.ListN.{length, getD, replicate, length-replicate}
+use lib.Dec.{eqb}
+use lib.ListN.{getD}
 use Rattle.limits.specs.declared.FarmCosts.{FarmCosts}
-use Rattle.walk.specs.Model.{noChunk}
 use Rattle.planner.specs.declared.Farm.{Farm}
-use Rattle.answers.specs.declared.Offer.{Offer}
 use Rattle.planner.specs.Model.{Sized, between, costsWithin}
 use Rattle.planner.specs.Passes.{passesOf}
-use Rattle.planner.specs.Calls.{unopened, showsWithin, openSaid, openFarm, offerFarm, withdrawFarm}
-use Rattle.planner.specs.Clock.{moveFarm}
-use Rattle.demands.specs.CallLists.{Call, offer, withdraw, move, handed}
+use Rattle.planner.specs.Calls.{unopened, showsWithin, openSaid, openFarm}
+use Rattle.planner.specs.Call.{Call, handed}
 use Rattle.demands.specs.Kept.{handed-keeps}
 use Rattle.demands.specs.Reached.{Reached, reached-opening, reached-call, reached-passes, reached-sized}
 use Rattle.text.specs.Model.{newline}
-use Rattle.reading.specs.declared.Kind.{Kind}
-use Rattle.reading.specs.declared.Kind.the-variants as kind
-use Rattle.reading.specs.Model.{lineKind, readable, numbersOf}
-use Rattle.lines.specs.Model.{Answered, unread, costsIn, farmLine, offerIn, jobLine, lent, clockLine, accountLine, withdrawLine, quoteLine, inTurn, called, recorded, longest, answered, Pending, part, long, ended, kept, Fed, behind, feed}
+use Rattle.reading.specs.Model.{numbersOf}
+use Rattle.lines.specs.Model.{costsIn, Asks, anOpening, aCall, noCall, inTurn, lineAsks, Answered, answeredText, unread, answerTo, answeredAs, answered, Pending, part, long, ended, kept, Fed, behind, feed}
 
 -- not opened, or reached by an opening and calls
 abbrev pub Reachable : Farm → Type 0
@@ -52,24 +47,10 @@ opening-reachable n c al = go (between 1 n 64) (costsWithin c) (showsWithin al) 
 pub call-reachable : (f : Farm) (c : Call) → Reachable f → Reachable (handed f c)
 call-reachable f c r o = reached-call f c (r (sym (handed-keeps f c .opened) ∙ o))
 
-offer-reachable : (f : Farm) (o : Offer) → Reachable f → Reachable (offerFarm f o)
-offer-reachable f o r = call-reachable f (offer o) r
-
-move-reachable : (f : Farm) (t n : ℕ) → Reachable f → Reachable (moveFarm f t n)
-move-reachable f t n r = subst (λ (k : ℕ). Reachable (moveFarm f t k)) (length-replicate n noChunk) (call-reachable f (move t (replicate n noChunk)) r)
-
-withdraw-reachable : (f : Farm) (n : ℕ) → Reachable f → Reachable (withdrawFarm f n)
-withdraw-reachable f n r = call-reachable f (withdraw n) r
-
-called-reachable : (f : Farm) (k : Kind) (n : ℕ) (ns al : List ℕ) → Reachable f → Reachable (called f k n ns al .farm)
-unfolding called farmLine jobLine clockLine accountLine withdrawLine quoteLine
-called-reachable f kind.Farm n ns al r = opening-reachable (getD ns 0 0) (costsIn ns) al
-called-reachable f kind.Job n ns al r = offer-reachable f (offerIn n ns) r
-called-reachable f kind.Clock n ns al r = move-reachable f (getD ns 0 0) lent r
-called-reachable f kind.Account n ns al r = r
-called-reachable f kind.Withdraw n ns al r = withdraw-reachable f (getD ns 0 0) r
-called-reachable f kind.Quote n ns al r = r
-called-reachable f kind.Unreadable n ns al r = r
+asked-reachable : (f : Farm) (a : Asks) (n : ℕ) (ns al : List ℕ) → Reachable f → Reachable (answerTo f a n ns al .farm)
+asked-reachable f anOpening n ns al r = opening-reachable (getD ns 0 0) (costsIn ns) al
+asked-reachable f (aCall g) n ns al r = call-reachable f (g n ns) r
+asked-reachable f noCall n ns al r = r
 
 choice-reachable : (b : Bool) (x y : Answered) → Reachable (x .farm) → Reachable (y .farm) → Reachable (cond b x y .farm)
 choice-reachable true x y p q = p
@@ -77,10 +58,8 @@ choice-reachable false x y p q = q
 
 -- A line keeps it so.
 pub answered-reachable : (f : Farm) (l : List ℕ) → Reachable f → Reachable (answered f l .farm)
-unfolding answered recorded
-answered-reachable f l r =
-    choice-reachable (leb (length l) longest) _ (unread f)
-    (choice-reachable (readable l) _ (unread f) (choice-reachable (inTurn (lineKind l) (f .opened)) _ (unread f) (called-reachable f (lineKind l) _ (numbersOf l) _ r) r) r) r
+unfolding answered answeredAs
+answered-reachable f l r = choice-reachable (inTurn (lineAsks l) (f .opened)) _ (unread f) (asked-reachable f (lineAsks l) _ (numbersOf l) _ r) r
 
 ended-reachable : (f : Farm) (p : Pending) → Reachable f → Reachable (ended f p .farm)
 ended-reachable f (part l) r = answered-reachable f l r
@@ -95,5 +74,5 @@ pub feed-reachable : (f : Farm) (p : Pending) (bs : List ℕ) → Reachable f �
 unfolding feed
 feed-reachable f p [] r = r
 feed-reachable f p (b ∷ bs) r =
-    fed-reachable (eqb b newline) (behind (ended f p .text) (feed (ended f p .farm) (part []) bs)) (feed f (kept p b) bs)
+    fed-reachable (eqb b newline) (behind (answeredText (ended f p)) (feed (ended f p .farm) (part []) bs)) (feed f (kept p b) bs)
     (feed-reachable (ended f p .farm) (part []) bs (ended-reachable f p r)) (feed-reachable f (kept p b) bs r)

@@ -19,10 +19,11 @@ use Rattle.planner.specs.Passes.{passesOf}
 use Rattle.planner.specs.Calls.{quoteSaid}
 use Rattle.planner.specs.OfferSteps.{Decides}
 use Rattle.planner.specs.ClockSteps.{Begins, MoveDecides, move-refused, move-taken, none-due-yet}
-use Rattle.lines.specs.Model.{Answered, Pending, answerText, inTurn, farmLine, jobLine, clockLine, accountLine, withdrawLine, quoteLine, called, lent}
+use Rattle.planner.specs.Call.{offer, quote, withdraw, account}
+use Rattle.lines.specs.Model.{offerIn, lent, asked, inTurn, Answered, answeredText, answerTo, Pending}
 use Rattle.lines.specs.Feeding.{keptAll, stretch}
 use Rattle.lines.specs.PendingLine.{kept-row}
-use Rattle.lines.specs.Rows.{FarmRow, pendingOf, rowIn, byRow, allowancesIn, row-farm, row-turn, row-unread}
+use Rattle.lines.specs.Rows.{FarmRow, pendingOf, rowIn, byRow, allowancesIn, row-farm, row-turn, row-unread, unread-text, opening-text, call-text, move-called}
 use Rattle.protocol.specs.Reachable.{Reachable, reachable-passes, reachable-sized}
 use Rattle.protocol.specs.CallSteps.{clock-plain, rows-asked, rows-fit, clock-text}
 use Rattle.protocol.specs.Blocks.{DayAt, day-start, day-reachable, day-took, day-rest, day-line}
@@ -124,7 +125,7 @@ module _ (t : Turn) where
 
   -- The line ends and is answered.
   answers : {x : Answered} {later : Farm} {most place : ℕ} {back : List ℕ} → byRow (farm t) (row t) ≡ x → later ≡ x .farm
-      → WroteWithin most (x .text) (line t .loop .at) (line t .loop .out) back place → most ≤ 180400 → Onward t later place back
+      → WroteWithin most (answeredText x) (line t .loop .at) (line t .loop .out) back place → most ≤ 180400 → Onward t later place back
   answers b d p h =
       let i = line t .loop .inv in
       let said = kept-row (farm t) (line t .loop .rest) (stretch (line t .loop .next) (end t) (entry t .args .block .now)) ∙ sym (ap (byRow (farm t)) (row-is t)) ∙ b in
@@ -134,16 +135,16 @@ module _ (n : Choice) where
   abbrev turn : Turn
   turn = n .before .before
 
-  in-its-turn : inTurn (row turn .kind) (farm turn .opened) ≡ true
+  in-its-turn : inTurn (asked (row turn .kind)) (farm turn .opened) ≡ true
   in-its-turn = sym (turn .in-turn .ensures) ∙ not-false _ (n .before .if4 .left)
 
   module _ {k : Kind} (told : row turn .kind ≡ k) where
-    kind-turn : inTurn k (farm turn .opened) ≡ true
-    kind-turn = subst (λ (x : Kind). inTurn x (farm turn .opened) ≡ true) told in-its-turn
+    kind-turn : inTurn (asked k) (farm turn .opened) ≡ true
+    kind-turn = subst (λ (x : Kind). inTurn (asked x) (farm turn .opened) ≡ true) told in-its-turn
 
-    -- It is answered as the call of its kind.
-    by-kind : byRow (farm turn) (row turn) ≡ called (farm turn) k (row turn .count) (row turn .numbers) (allowancesIn (row turn))
-    by-kind = row-turn (farm turn) (row turn) in-its-turn ∙ ap (λ (x : Kind). called (farm turn) x (row turn .count) (row turn .numbers) (allowancesIn (row turn))) told
+    -- It is answered what a line of its kind asks for.
+    by-kind : byRow (farm turn) (row turn) ≡ answerTo (farm turn) (asked k) (row turn .count) (row turn .numbers) (allowancesIn (row turn))
+    by-kind = row-turn (farm turn) (row turn) in-its-turn ∙ ap (λ (x : Kind). answerTo (farm turn) (asked x) (row turn .count) (row turn .numbers) (allowancesIn (row turn))) told
 
   reaches : Reachable (farm turn)
   reaches = day-reachable (line turn .loop .inv .0) (entry turn .pre)
@@ -231,7 +232,7 @@ loop-less c = less (c .before .before .before .before .before)
 loop-again : tie.Need-loop-again Inv-loop μ-loop
 loop-again c =
     let t = c .before .before .before .before .before in
-    answers t (row-unread (farm t) (row t) (sym (t .in-turn .ensures) ∙ not-true _ (c .before .before .before .before .if4 .taken))) refl (c .before .before .put-unread .ensures) (omega arith)
+    answers t (row-unread (farm t) (row t) (sym (t .in-turn .ensures) ∙ not-true _ (c .before .before .before .before .if4 .taken))) refl (within-same (unread-text (farm t)) (c .before .before .put-unread .ensures)) (omega arith)
 
 array-read-account-unchecked : tie.Need-array-read-account-unchecked Inv-loop μ-loop
 array-read-account-unchecked c = search needs
@@ -246,10 +247,9 @@ loop-less-2 : tie.Need-loop-less-2 Inv-loop μ-loop
 loop-less-2 c = less (turn (c .before .before .before .before .before .before .before))
 
 loop-again-2 : tie.Need-loop-again-2 Inv-loop μ-loop
-unfolding called accountLine
 loop-again-2 c =
     let n = c .before .before .before .before .before .before .before in
-    answers (turn n) (by-kind n (c .before .before .before .before .before .enum-told .given .1)) refl (within-same (ap answerText (c .before .before .before .account-unchecked .ensures)) (c .before .before .put-answer .ensures)) (omega arith)
+    answers (turn n) (by-kind n (c .before .before .before .before .before .enum-told .given .1)) refl (within-same (call-text (farm (turn n)) (account (first (turn n))) refl (c .before .before .before .account-unchecked .ensures)) (c .before .before .put-answer .ensures)) (omega arith)
 
 enum-told-2 : tie.Need-enum-told-2 Inv-loop μ-loop
 enum-told-2 c = search needs
@@ -273,23 +273,21 @@ loop-less-3 : tie.Need-loop-less-3 Inv-loop μ-loop
 loop-less-3 c = less (turn (c .before .before .before .before .before .before .before .before .before .before .before .before))
 
 loop-again-3 : tie.Need-loop-again-3 Inv-loop μ-loop
-unfolding called jobLine
 loop-again-3 c =
     let n = c .before .before .before .before .before .before .before .before .before .before .before .before in
     let r = c .before .before .before .before .before .before .before .before .offer-unchecked in
     let d = subst (λ (x : Offer). Decides (farm (turn n)) x (r .result)) (c .before .before .before .before .before .before .before .before .before .offered .ensures) (r .ensures) in
-    answers (turn n) (by-kind n (c .before .before .before .before .before .before .before .before .before .before .enum-told2 .given .1)) (sym (d .accepts (c .before .before .before .if5 .taken) .0)) (within-same (ap answerText (d .says)) (c .before .before .before .before .before .before .put-answer2 .ensures)) (omega arith)
+    answers (turn n) (by-kind n (c .before .before .before .before .before .before .before .before .before .before .enum-told2 .given .1)) (sym (d .accepts (c .before .before .before .if5 .taken) .0)) (within-same (call-text (farm (turn n)) (offer (offerIn (row (turn n) .count) (row (turn n) .numbers))) refl (d .says)) (c .before .before .before .before .before .before .put-answer2 .ensures)) (omega arith)
 
 loop-less-4 : tie.Need-loop-less-4 Inv-loop μ-loop
 loop-less-4 c = less (turn (c .before .before .before .before .before .before .before .before .before))
 
 loop-again-4 : tie.Need-loop-again-4 Inv-loop μ-loop
-unfolding called jobLine
 loop-again-4 c =
     let n = c .before .before .before .before .before .before .before .before .before in
     let r = c .before .before .before .before .before .offer-unchecked in
     let d = subst (λ (x : Offer). Decides (farm (turn n)) x (r .result)) (c .before .before .before .before .before .before .offered .ensures) (r .ensures) in
-    answers (turn n) (by-kind n (c .before .before .before .before .before .before .before .enum-told2 .given .1)) (sym (d .refuses (c .if5 .left))) (within-same (ap answerText (d .says)) (c .before .before .before .put-answer2 .ensures)) (omega arith)
+    answers (turn n) (by-kind n (c .before .before .before .before .before .before .before .enum-told2 .given .1)) (sym (d .refuses (c .if5 .left))) (within-same (call-text (farm (turn n)) (offer (offerIn (row (turn n) .count) (row (turn n) .numbers))) refl (d .says)) (c .before .before .before .put-answer2 .ensures)) (omega arith)
 
 enum-told-3 : tie.Need-enum-told-3 Inv-loop μ-loop
 enum-told-3 c = search needs
@@ -307,12 +305,11 @@ loop-less-5 : tie.Need-loop-less-5 Inv-loop μ-loop
 loop-less-5 c = less (turn (c .before .before .before .before .before .before .before .before .before .before))
 
 loop-again-5 : tie.Need-loop-again-5 Inv-loop μ-loop
-unfolding called clockLine
 loop-again-5 c =
     let n = c .before .before .before .before .before .before .before .before .before .before in
     let m = c .before .before .before .before .before .before .before .move-unchecked in
     let k = move-refused (farm (turn n)) (first (turn n)) lent (m .result) (m .ensures) (not-true _ (c .before .before .before .before .if6 .taken)) in
-    answers (turn n) (by-kind n (c .before .before .before .before .before .before .before .before .enum-told3 .given .1)) (sym (k .0)) (within-same (clock-plain (farm (turn n)) (first (turn n)) _ (k .1) (m .ensures .says)) (c .before .before .put-answer3 .ensures)) (omega arith)
+    answers (turn n) (by-kind n (c .before .before .before .before .before .before .before .before .enum-told3 .given .1) ∙ move-called (farm (turn n)) (first (turn n))) (sym (k .0)) (within-same (clock-plain (farm (turn n)) (first (turn n)) _ (k .1) (m .ensures .says)) (c .before .before .put-answer3 .ensures)) (omega arith)
 
 put-answer-requires-4 : tie.Need-put-answer-requires-4 Inv-loop μ-loop
 put-answer-requires-4 c κs = omega (arith, room (turn (c .before .before .before .before .before .before .before .before .before)))
@@ -321,12 +318,11 @@ loop-less-6 : tie.Need-loop-less-6 Inv-loop μ-loop
 loop-less-6 c = less (turn (c .before .before .before .before .before .before .before .before .before .before .before .before))
 
 loop-again-6 : tie.Need-loop-again-6 Inv-loop μ-loop
-unfolding called clockLine
 loop-again-6 c =
     let g = c .before .before .before .before .before .before in
     let k = move-taken (old g) (time g) lent (step g) (decides g) (granted g) in
     let q = none-due-yet (old g) (time g) (step g .due) (sized g) (begins g) (c .before .before .before .before .if7 .taken) in
-    answers (turn (choice g)) (by-kind (choice g) (g .before .before .before .before .enum-told3 .given .1)) (q .0 ∙ sym (k .0)) (within-same (clock-plain (old g) (time g) _ (k .1 ∙ q .1) (decides g .says)) (c .before .before .put-answer4 .ensures)) (omega arith)
+    answers (turn (choice g)) (by-kind (choice g) (g .before .before .before .before .enum-told3 .given .1) ∙ move-called (old g) (time g)) (q .0 ∙ sym (k .0)) (within-same (clock-plain (old g) (time g) _ (k .1 ∙ q .1) (decides g .says)) (c .before .before .put-answer4 .ensures)) (omega arith)
 
 write-rows-requires : tie.Need-write-rows-requires Inv-loop μ-loop
 write-rows-requires c κs = let g = c .before .before .before .before .before .before in rows-asked (old g) (time g) (step g) (sized g) (begins g) (decides g) (granted g)
@@ -347,11 +343,10 @@ loop-less-7 : tie.Need-loop-less-7 Inv-loop μ-loop
 loop-less-7 c = less (turn (c .before .before .before .before .before .before .before .before .before .before .before .before .before .before .before .before .before .before .before))
 
 loop-again-7 : tie.Need-loop-again-7 Inv-loop μ-loop
-unfolding called clockLine
 loop-again-7 c =
     let g = c .before .before .before .before .before .before .before .before .before .before .before .before .before in
     let k = move-taken (old g) (time g) lent (step g) (decides g) (granted g) in
-    answers (turn (choice g)) (by-kind (choice g) (g .before .before .before .before .enum-told3 .given .1)) (c .before .before .before .before .before .moved .ensures ∙ sym (k .0)) (within-same (clock-text (old g) (time g) (step g) (sized g) (begins g) (decides g) (granted g) _ _ (c .before .before .before .before .before .before .write-rows .ensures)) (c .before .before .put-move .ensures)) (omega arith)
+    answers (turn (choice g)) (by-kind (choice g) (g .before .before .before .before .enum-told3 .given .1) ∙ move-called (old g) (time g)) (c .before .before .before .before .before .moved .ensures ∙ sym (k .0)) (within-same (clock-text (old g) (time g) (step g) (sized g) (begins g) (decides g) (granted g) _ _ (c .before .before .before .before .before .before .write-rows .ensures)) (c .before .before .put-move .ensures)) (omega arith)
 
 enum-told-4 : tie.Need-enum-told-4 Inv-loop μ-loop
 enum-told-4 c = search needs
@@ -366,11 +361,10 @@ loop-less-8 : tie.Need-loop-less-8 Inv-loop μ-loop
 loop-less-8 c = less (turn (c .before .before .before .before .before .before .before .before))
 
 loop-again-8 : tie.Need-loop-again-8 Inv-loop μ-loop
-unfolding called farmLine
 loop-again-8 c =
     let n = c .before .before .before .before .before .before .before .before in
     let p = c .before .before .before .before .before .opening .ensures in
-    answers (turn n) (by-kind n (c .before .before .before .before .before .before .enum-told4 .given .1)) (p .hands) (within-same (ap answerText (p .says)) (c .before .before .put-answer5 .ensures)) (omega arith)
+    answers (turn n) (by-kind n (c .before .before .before .before .before .before .enum-told4 .given .1)) (p .hands) (within-same (opening-text (row (turn n) .numbers) (allowancesIn (row (turn n))) (p .says)) (c .before .before .put-answer5 .ensures)) (omega arith)
 
 enum-told-5 : tie.Need-enum-told-5 Inv-loop μ-loop
 enum-told-5 c = search needs
@@ -391,21 +385,19 @@ loop-less-9 : tie.Need-loop-less-9 Inv-loop μ-loop
 loop-less-9 c = less (turn (c .before .before .before .before .before .before .before .before .before .before))
 
 loop-again-9 : tie.Need-loop-again-9 Inv-loop μ-loop
-unfolding called withdrawLine
 loop-again-9 c =
     let n = c .before .before .before .before .before .before .before .before .before .before in
     let d = c .before .before .before .before .before .before .before .withdraw-unchecked .ensures in
-    answers (turn n) (by-kind n (c .before .before .before .before .before .before .before .before .enum-told5 .given .1)) (sym (d .grants (c .before .before .if8 .taken) .0)) (within-same (ap answerText (d .says)) (c .before .before .before .before .before .put-answer6 .ensures)) (omega arith)
+    answers (turn n) (by-kind n (c .before .before .before .before .before .before .before .before .enum-told5 .given .1)) (sym (d .grants (c .before .before .if8 .taken) .0)) (within-same (call-text (farm (turn n)) (withdraw (first (turn n))) refl (d .says)) (c .before .before .before .before .before .put-answer6 .ensures)) (omega arith)
 
 loop-less-10 : tie.Need-loop-less-10 Inv-loop μ-loop
 loop-less-10 c = less (turn (c .before .before .before .before .before .before .before .before))
 
 loop-again-10 : tie.Need-loop-again-10 Inv-loop μ-loop
-unfolding called withdrawLine
 loop-again-10 c =
     let n = c .before .before .before .before .before .before .before .before in
     let d = c .before .before .before .before .before .withdraw-unchecked .ensures in
-    answers (turn n) (by-kind n (c .before .before .before .before .before .before .enum-told5 .given .1)) (sym (d .refuses (c .if8 .left))) (within-same (ap answerText (d .says)) (c .before .before .before .put-answer6 .ensures)) (omega arith)
+    answers (turn n) (by-kind n (c .before .before .before .before .before .before .enum-told5 .given .1)) (sym (d .refuses (c .if8 .left))) (within-same (call-text (farm (turn n)) (withdraw (first (turn n))) refl (d .says)) (c .before .before .before .put-answer6 .ensures)) (omega arith)
 
 enum-told-6 : tie.Need-enum-told-6 Inv-loop μ-loop
 enum-told-6 c = search needs
@@ -423,12 +415,11 @@ loop-less-11 : tie.Need-loop-less-11 Inv-loop μ-loop
 loop-less-11 c = less (turn (c .before .before .before .before .before .before .before .before))
 
 loop-again-11 : tie.Need-loop-again-11 Inv-loop μ-loop
-unfolding called quoteLine
 loop-again-11 c =
     let n = c .before .before .before .before .before .before .before .before in
     let q = c .before .before .before .quote-unchecked .ensures in
     let said = q ∙ ap (quoteSaid (farm (turn n))) (c .before .before .before .before .offered2 .ensures) in
-    answers (turn n) (by-kind n (c .before .before .before .before .before .before .enum-told6 .given .1)) refl (within-same (ap answerText said) (c .before .before .put-answer7 .ensures)) (omega arith)
+    answers (turn n) (by-kind n (c .before .before .before .before .before .before .enum-told6 .given .1)) refl (within-same (call-text (farm (turn n)) (quote (offerIn (row (turn n) .count) (row (turn n) .numbers))) refl said) (c .before .before .put-answer7 .ensures)) (omega arith)
 
 enum-told-7 : tie.Need-enum-told-7 Inv-loop μ-loop
 enum-told-7 c = search needs
@@ -440,10 +431,9 @@ loop-less-12 : tie.Need-loop-less-12 Inv-loop μ-loop
 loop-less-12 c = less (turn (c .before .before .before .before .before .before))
 
 loop-again-12 : tie.Need-loop-again-12 Inv-loop μ-loop
-unfolding called
 loop-again-12 c =
     let n = c .before .before .before .before .before .before in
-    answers (turn n) (by-kind n (c .before .before .before .before .enum-told7 .given .1)) refl (c .before .before .put-unread2 .ensures) (omega arith)
+    answers (turn n) (by-kind n (c .before .before .before .before .enum-told7 .given .1)) refl (within-same (unread-text (farm (turn n))) (c .before .before .put-unread2 .ensures)) (omega arith)
 
 same-length-3 : tie.Need-same-length-3 Inv-loop μ-loop
 same-length-3 c = search needs
