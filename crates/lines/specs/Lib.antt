@@ -2,6 +2,7 @@
 pub mod Model
 pub mod Feeding
 pub mod PendingLine
+pub mod Orders
 pub mod Rows
 pub mod AnswerLines
 pub mod JobLines

@@ -4,6 +4,19 @@ pub mod answer;
 pub mod kept;
 pub mod step;
 
+use planner::Command;
+use planner::Query;
+
+// What a line asks for: to open a farm, a call that decides which jobs wait, one that only tells, a clock move to a time, or nothing
+// that can be read.
+pub enum Order {
+    Open,
+    Command(Command),
+    Query(Query),
+    Clock(u64),
+    Unreadable,
+}
+
 // What has come of a line that has not ended: its first `fill` bytes. A fill above 1,024 says that it is too long.
 pub struct Rest {
     pub fill: usize,

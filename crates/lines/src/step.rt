@@ -1,16 +1,20 @@
-// Whether a line is in its turn, and the opening or the offer that a row is. A quote has the offer of its row.
+// What a row asks for, whether that is in its turn, and the opening or the offer that a row is. A quote has the offer of its row.
 ghost use mathlib.Core.Bool.{cond};
 ghost use mathlib.Core.Path.{_≡_};
 ghost use Prim.Native.Nat.{_≤_};
 ghost use lib.Dec.{leb};
 ghost use lib.ListN.{getD};
 ghost use Rattle.planner.specs.Calls.{Replies, openSaid, openFarm};
-ghost use Rattle.lines.specs.Model.{costsIn, offerIn, asked, inTurn};
+ghost use Rattle.lines.specs.Model.{costsIn, offerIn};
+ghost use Rattle.lines.specs.Orders.{orderOf, orderTurn};
 ghost use Rattle.lines.specs.Rows.{allowancesIn};
+use crate::Order;
 use answers::ComputeCost;
 use answers::Offer;
 use limits::FarmCosts;
+use planner::Command;
 use planner::Farm;
+use planner::Query;
 use planner::Reply;
 use reading::Kind;
 use reading::Row;
@@ -55,17 +59,32 @@ pub fn offered(row: Row) -> Offer
     }
 }
 
-// Whether a line of this kind is in its turn: `farm` before an opened farm, the others after it.
-pub fn in_turn(kind: Kind, opened: bool) -> bool
-    ensures { λ r. ⌜ r ≡ inTurn (asked kind) opened ⌝ }
+// What a row asks for, by its kind: the one place that goes by it.
+pub fn order_of(row: Row) -> Order
+    ensures { λ r. ⌜ r ≡ orderOf (row .kind) (row .count) (row .numbers) ⌝ }
 {
+    let numbers = row.numbers;
+    let kind = row.kind;
     match kind {
-        Kind::Farm => !opened,
-        Kind::Job => opened,
-        Kind::Clock => opened,
-        Kind::Account => opened,
-        Kind::Withdraw => opened,
-        Kind::Quote => opened,
-        Kind::Unreadable => false,
+        Kind::Farm => Order::Open,
+        Kind::Job => Order::Command(Command::Offer(offered(row))),
+        Kind::Clock => Order::Clock(numbers[0]),
+        Kind::Account => Order::Query(Query::Account(numbers[0])),
+        Kind::Withdraw => Order::Command(Command::Withdraw(numbers[0])),
+        Kind::Quote => Order::Query(Query::Quote(offered(row))),
+        Kind::Unreadable => Order::Unreadable,
+    }
+}
+
+// Whether what a line asks for is in its turn: an opening before an opened farm, a call after it.
+pub fn in_turn(order: Order, opened: bool) -> bool
+    ensures { λ r. ⌜ r ≡ orderTurn order opened ⌝ }
+{
+    match order {
+        Order::Open => !opened,
+        Order::Command(command) => opened,
+        Order::Query(query) => opened,
+        Order::Clock(time) => opened,
+        Order::Unreadable => false,
     }
 }

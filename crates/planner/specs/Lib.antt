@@ -11,3 +11,4 @@ pub mod Clock
 pub mod ClockSteps
 pub mod Call
 pub mod CallLaws
+pub mod CallKinds

@@ -11,6 +11,7 @@ ghost use Rattle.protocol.specs.Reachable.{Reachable};
 use crate::Progress;
 use crate::Session;
 use limits::FarmCosts;
+use lines::Order;
 use lines::Rest;
 use lines::answer::put_answer;
 use lines::answer::put_move;
@@ -18,10 +19,9 @@ use lines::answer::put_unread;
 use lines::kept::row_behind;
 use lines::kept::with_bytes;
 use lines::step::in_turn;
-use lines::step::offered;
 use lines::step::opening;
+use lines::step::order_of;
 use planner::Farm;
-use reading::Kind;
 use search::find;
 use timetable::lines::write_rows;
 
@@ -93,64 +93,50 @@ pub fn answer_block(
         let row = row_behind(rest.fill, &rest.bytes, block, next, end);
         rest.fill = 0;
         next = end + 1;
-        let kind = row.kind;
-        if !in_turn(kind, farm.opened) {
+        let order = order_of(row);
+        if !in_turn(order, farm.opened) {
             at = put_unread(out, at);
         } else {
-            let numbers = row.numbers;
-            match kind {
-                Kind::Account => {
-                    at = put_answer(out, at, farm.account_unchecked(numbers[0]));
+            match order {
+                Order::Query(query) => {
+                    at = put_answer(out, at, farm.tell_unchecked(query));
                 }
-                Kind::Job => {
-                    let decision = farm.offer_unchecked(offered(row));
+                Order::Command(command) => {
+                    let decision = farm.decide_unchecked(command);
                     let answer = decision.answer;
                     at = put_answer(out, at, answer);
                     if decision.granted {
                         let jobs = decision.jobs;
-                        farm.used += 1;
-                        farm.waiting += 1;
+                        farm.used = decision.used;
+                        farm.waiting = decision.waiting;
                         farm.jobs = jobs;
                     }
                 }
-                Kind::Clock => {
-                    let step = farm.move_unchecked(numbers[0], 1024);
+                Order::Clock(time) => {
+                    let step = farm.move_unchecked(time, 1024);
                     let answer = step.answer;
                     let due = step.due;
                     if !step.granted {
                         at = put_answer(out, at, answer);
                     } else if due.count == 0 {
-                        farm.clock = numbers[0];
+                        farm.clock = time;
                         at = put_answer(out, at, answer);
                     } else {
                         let costs = farm.costs;
                         let jobs = farm.jobs;
                         let keys = due.keys;
                         write_rows(rows, costs, jobs, keys, due.count);
-                        farm = farm.moved(due, numbers[0]);
+                        farm = farm.moved(due, time);
                         at = put_move(out, at, rows, due.lines, answer);
                     }
                 }
-                Kind::Farm => {
+                Order::Open => {
                     let reply = opening(row);
                     let answer = reply.answer;
                     farm = reply.farm;
                     at = put_answer(out, at, answer);
                 }
-                Kind::Withdraw => {
-                    let decision = farm.withdraw_unchecked(numbers[0]);
-                    let answer = decision.answer;
-                    at = put_answer(out, at, answer);
-                    if decision.granted {
-                        let jobs = decision.jobs;
-                        farm.waiting -= 1;
-                        farm.jobs = jobs;
-                    }
-                }
-                Kind::Quote => {
-                    at = put_answer(out, at, farm.quote_unchecked(offered(row)));
-                }
-                Kind::Unreadable => {
+                Order::Unreadable => {
                     at = put_unread(out, at);
                 }
             }

@@ -1,0 +1,53 @@
+-- What the code makes of a row, for src/step.rt: an order, by the sort of call that the row asks for. It is answered what the row asks for.
+use mathlib.Core.Path.{_≡_, refl}
+use mathlib.Core.List.{List}
+use mathlib.Core.Bool.{Bool, false, not}
+use Prim.Native.Nat.{ℕ}
+use lib.ListN.{getD, replicate}
+use Rattle.walk.specs.Model.{noChunk}
+use Rattle.planner.specs.declared.Farm.{Farm}
+use Rattle.planner.specs.declared.Command.the-variants as command
+use Rattle.planner.specs.declared.Query.the-variants as query
+use Rattle.planner.specs.Call.{move}
+use Rattle.planner.specs.CallKinds.{commandCall, queryCall}
+use Rattle.reading.specs.declared.Kind.{Kind}
+use Rattle.reading.specs.declared.Kind.the-variants as kind
+use Rattle.lines.specs.declared.Order.{Order}
+use Rattle.lines.specs.declared.Order.the-variants as order
+use Rattle.lines.specs.Model.{offerIn, lent, asked, inTurn, Answered, unread, openingWith, called, answerTo}
+
+-- what a row of a kind, by its n numbers, asks for
+abbrev pub orderOf : Kind → ℕ → List ℕ → Order
+orderOf kind.Farm n ns = order.Open
+orderOf kind.Job n ns = order.Command (command.Offer (offerIn n ns))
+orderOf kind.Clock n ns = order.Clock (getD ns 0 0)
+orderOf kind.Account n ns = order.Query (query.Account (getD ns 0 0))
+orderOf kind.Withdraw n ns = order.Command (command.Withdraw (getD ns 0 0))
+orderOf kind.Quote n ns = order.Query (query.Quote (offerIn n ns))
+orderOf kind.Unreadable n ns = order.Unreadable
+
+-- in its turn: an opening before an opened farm, a call after it
+abbrev pub orderTurn : Order → Bool → Bool
+orderTurn order.Open opened = not opened
+orderTurn (order.Command c) opened = opened
+orderTurn (order.Query q) opened = opened
+orderTurn (order.Clock t) opened = opened
+orderTurn order.Unreadable opened = false
+
+-- what it is answered in its turn, by the numbers of the row and a farm's allowances
+abbrev pub orderAnswer : Farm → Order → List ℕ → List ℕ → Answered
+orderAnswer f order.Open ns al = openingWith ns al
+orderAnswer f (order.Command c) ns al = called f (commandCall c)
+orderAnswer f (order.Query q) ns al = called f (queryCall q)
+orderAnswer f (order.Clock t) ns al = called f (move t (replicate lent noChunk))
+orderAnswer f order.Unreadable ns al = unread f
+
+-- A row is in its turn where its order is, and answered what its order is.
+pub order-is : (f : Farm) (k : Kind) (n : ℕ) (ns al : List ℕ) (o : Bool) → (inTurn (asked k) o ≡ orderTurn (orderOf k n ns) o) × (answerTo f (asked k) n ns al ≡ orderAnswer f (orderOf k n ns) ns al)
+order-is f kind.Farm n ns al o = (refl, refl)
+order-is f kind.Job n ns al o = (refl, refl)
+order-is f kind.Clock n ns al o = (refl, refl)
+order-is f kind.Account n ns al o = (refl, refl)
+order-is f kind.Withdraw n ns al o = (refl, refl)
+order-is f kind.Quote n ns al o = (refl, refl)
+order-is f kind.Unreadable n ns al o = (refl, refl)
