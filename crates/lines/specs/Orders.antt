@@ -1,7 +1,7 @@
 -- What the code makes of a row, for src/step.rt: an order, by the sort of call that the row asks for. It is answered what the row asks for.
-use mathlib.Core.Path.{_≡_, refl}
+use mathlib.Core.Path.{_≡_, refl, ap}
 use mathlib.Core.List.{List}
-use mathlib.Core.Bool.{Bool, false, not}
+use mathlib.Core.Bool.{Bool, true, false, not, false≢true}
 use Prim.Native.Nat.{ℕ}
 use lib.ListN.{getD, replicate}
 use Rattle.walk.specs.Model.{noChunk}
@@ -51,3 +51,20 @@ order-is f kind.Account n ns al o = (refl, refl)
 order-is f kind.Withdraw n ns al o = (refl, refl)
 order-is f kind.Quote n ns al o = (refl, refl)
 order-is f kind.Unreadable n ns al o = (refl, refl)
+
+abbrev opens : Order → Bool
+opens order.Open = true
+opens (order.Command c) = false
+opens (order.Query q) = false
+opens (order.Clock t) = false
+opens order.Unreadable = false
+
+-- Only a `farm` line opens a farm.
+pub open-kind : (k : Kind) (n : ℕ) (ns : List ℕ) → orderOf k n ns ≡ order.Open → k ≡ kind.Farm
+open-kind kind.Farm n ns e = refl
+open-kind kind.Job n ns e = absurd (false≢true (ap opens e))
+open-kind kind.Clock n ns e = absurd (false≢true (ap opens e))
+open-kind kind.Account n ns e = absurd (false≢true (ap opens e))
+open-kind kind.Withdraw n ns e = absurd (false≢true (ap opens e))
+open-kind kind.Quote n ns e = absurd (false≢true (ap opens e))
+open-kind kind.Unreadable n ns e = absurd (false≢true (ap opens e))

@@ -1,7 +1,7 @@
--- The answer of a clock move and the records that it is lent, for src/blocks.rt.
-use mathlib.Core.Path.{_≡_, ap, ap₂, sym, _∙_}
+-- What commands and queries print and leave, the answer of a clock move and the records that it is lent, for src/blocks.rt.
+use mathlib.Core.Path.{_≡_, refl, ap, ap₂, sym, _∙_}
 use mathlib.Core.List.{List, [], _++_, map}
-use mathlib.Core.Bool.{true}
+use mathlib.Core.Bool.{Bool, true, false, cond}
 use Prim.Native.Nat.{ℕ, _+_, _≤_, _<_}
 use native.Mathlib.Omega.{arith}
 use lib.ListN.{length, take, length-append, length-map}
@@ -15,13 +15,45 @@ use Rattle.timetable.specs.Model.{rowOf, linesOfAll}
 use Rattle.timetable.specs.BeginSteps.{chunks}
 use Rattle.planner.specs.declared.Farm.{Farm}
 use Rattle.planner.specs.declared.Move.{Move}
+use Rattle.planner.specs.declared.Decision.{Decision}
+use Rattle.planner.specs.declared.Command.{Command}
+use Rattle.planner.specs.declared.Command.the-variants as command
+use Rattle.planner.specs.declared.Query.{Query}
+use Rattle.planner.specs.declared.Query.the-variants as query
+use Rattle.planner.specs.Changes.{withJobs}
+use Rattle.planner.specs.CallsSteps.{Decides}
+use Rattle.planner.specs.Call.{offer, quote, withdraw, account, reply, handed}
+use Rattle.planner.specs.CallKinds.{commandCall, queryCall}
 use Rattle.planner.specs.Model.{Sized}
 use Rattle.planner.specs.Calls.{Said}
 use Rattle.planner.specs.Clock.{moveSaid, moveLines}
 use Rattle.planner.specs.Calls.{said}
 use Rattle.planner.specs.ClockSteps.{Begins, MoveDecides, begins-few, begins-places, begins-sends, begins-lines, begins-count, move-taken}
-use Rattle.lines.specs.Model.{answerText, chunkTexts, lent}
+use Rattle.lines.specs.Model.{answerText, chunkTexts, answeredText, called, lent}
+use Rattle.lines.specs.Rows.{call-text}
 use Rattle.lines.specs.AnswerLines.{rowTexts, front-texts}
+
+-- A command issues no chunk, so that it prints what it is told,
+pub command-text : (f : Farm) (c : Command) {s : Said} → s ≡ reply f (commandCall c) → answerText s ≡ answeredText (called f (commandCall c))
+command-text f (command.Offer o) e = call-text f (offer o) refl e
+command-text f (command.Withdraw n) e = call-text f (withdraw n) refl e
+
+-- and so does a query,
+pub query-text : (f : Farm) (q : Query) {s : Said} → s ≡ reply f (queryCall q) → answerText s ≡ answeredText (called f (queryCall q))
+query-text f (query.Quote o) e = call-text f (quote o) refl e
+query-text f (query.Account n) e = call-text f (account n) refl e
+
+-- which leaves the farm as it is.
+pub query-keeps : (f : Farm) (q : Query) → handed f (queryCall q) ≡ f
+query-keeps f (query.Quote o) = refl
+query-keeps f (query.Account n) = refl
+
+-- The farm with a decision carried out, where it is granted and where it is not.
+pub decided-granted : {f : Farm} {s : Said} {next : Farm} {d : Decision} → Decides f s next d → d .granted ≡ true → withJobs f (d .used) (d .waiting) (d .jobs) ≡ next
+decided-granted {f} {s} {next} {d} x e = ap (λ (b : Bool). cond b (withJobs f (d .used) (d .waiting) (d .jobs)) f) (sym e) ∙ x .hands
+
+pub decided-refused : {f : Farm} {s : Said} {next : Farm} {d : Decision} → Decides f s next d → d .granted ≡ false → f ≡ next
+decided-refused {f} {s} {next} {d} x e = ap (λ (b : Bool). cond b (withJobs f (d .used) (d .waiting) (d .jobs)) f) (sym e) ∙ x .hands
 
 -- A move that issues no line prints its answer alone.
 pub clock-plain : (f : Farm) (t : ℕ) (s : Said) → moveLines f t lent ≡ [] → s ≡ moveSaid f t lent → answerText s ≡ chunkTexts (moveLines f t lent) ++ answerText (moveSaid f t lent)

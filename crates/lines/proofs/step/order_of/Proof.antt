@@ -1,9 +1,7 @@
+-- `lines::step::order_of` meets its contract, kind by kind.
 use borrow.Author.Needs.{needs}
 use Rattle.lines.proofs.step.order_of.Statement.{statement}
 use Rattle.lines.proofs.step.order_of.Tie as tie
-use Rattle.lines.proofs.step.order_of.Reads as reads
-use Rattle.lines.proofs.step.order_of.Lts as lts
-use Rattle.lines.proofs.step.offered.Reads as offered-reads
 
 enum-told : tie.Need-enum-told
 enum-told c = search needs
@@ -45,19 +43,19 @@ returns : tie.Need-returns
 returns c = search needs
 
 returns-2 : tie.Need-returns-2
-returns-2 c = search needs
+returns-2 c = rw (c .offered .ensures, c .before .enum-told2 .given .1)
 
 returns-3 : tie.Need-returns-3
-returns-3 c = search needs
+returns-3 c = rw (c .enum-told3 .given .1)
 
 returns-4 : tie.Need-returns-4
-returns-4 c = search needs
+returns-4 c = rw (c .enum-told4 .given .1)
 
 returns-5 : tie.Need-returns-5
-returns-5 c = search needs
+returns-5 c = rw (c .enum-told5 .given .1)
 
 returns-6 : tie.Need-returns-6
-returns-6 c = search needs
+returns-6 c = rw (c .offered2 .ensures, c .before .enum-told6 .given .1)
 
 returns-7 : tie.Need-returns-7
 returns-7 c = search needs

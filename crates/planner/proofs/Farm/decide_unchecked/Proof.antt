@@ -21,12 +21,12 @@ withdraw-unchecked-requires : tie.Need-withdraw-unchecked-requires
 withdraw-unchecked-requires c κs = c .before .before .before .pre
 
 returns : tie.Need-returns
-returns c = 
+returns c =
     let f = c .before .before .before .before .args .self in
     subst (λ (x : Command). Decides f (reply f (commandCall x)) (handed f (commandCall x)) (c .offer-unchecked .result)) (sym (c .before .before .command .given .1)) (c .offer-unchecked .ensures)
 
 returns-2 : tie.Need-returns-2
-returns-2 c = 
+returns-2 c =
     let f = c .before .before .before .before .args .self in
     subst (λ (x : Command). Decides f (reply f (commandCall x)) (handed f (commandCall x)) (c .withdraw-unchecked .result)) (sym (c .before .before .command2 .given .1)) (c .withdraw-unchecked .ensures)
 

@@ -20,12 +20,12 @@ account-unchecked-requires : tie.Need-account-unchecked-requires
 account-unchecked-requires c κs = c .before .before .before .pre
 
 returns : tie.Need-returns
-returns c = 
+returns c =
     let f = c .before .before .before .before .args .self in
     c .quote-unchecked .ensures ∙ ap (λ (x : Query). reply f (queryCall x)) (sym (c .before .before .query .given .1))
 
 returns-2 : tie.Need-returns-2
-returns-2 c = 
+returns-2 c =
     let f = c .before .before .before .before .args .self in
     c .account-unchecked .ensures ∙ ap (λ (x : Query). reply f (queryCall x)) (sym (c .before .before .query2 .given .1))
 

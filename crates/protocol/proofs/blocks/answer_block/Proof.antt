@@ -1,31 +1,28 @@
 -- `protocol::blocks::answer_block` meets its contract: the farm is reachable, so that it passes question 11 once it is opened.
 use borrow.Author.Needs.{needs}
 use mathlib.Core.Path.{_≡_, refl, ap, sym, subst, _∙_}
-use mathlib.Core.Bool.{true}
+use mathlib.Core.Bool.{Bool, true}
 use mathlib.Core.List.{List}
 use Prim.Native.Nat.{ℕ, _+_, _-_, _≤_, _<_}
 use native.Mathlib.Omega.{arith}
 use borrow.Author.Tests.{not-true, not-false}
-use lib.ListN.{length, getD}
+use lib.ListN.{length}
 use Rattle.search.specs.Laws.{next-within}
 use Rattle.text.specs.Writing.{WroteWithin, within-same}
-use Rattle.reading.specs.declared.Kind.{Kind}
 use Rattle.reading.specs.declared.Row.{Row}
 use Rattle.planner.specs.declared.Farm.{Farm}
-use Rattle.answers.specs.declared.Offer.{Offer}
 use Rattle.planner.specs.declared.Move.{Move}
 use Rattle.planner.specs.Model.{Sized}
 use Rattle.planner.specs.Passes.{passesOf}
-use Rattle.planner.specs.Calls.{quoteSaid}
-use Rattle.planner.specs.OfferSteps.{Decides}
 use Rattle.planner.specs.ClockSteps.{Begins, MoveDecides, move-refused, move-taken, none-due-yet}
-use Rattle.planner.specs.Call.{offer, quote, withdraw, account}
-use Rattle.lines.specs.Model.{offerIn, lent, asked, inTurn, Answered, answeredText, answerTo, Pending}
+use Rattle.lines.specs.declared.Order.{Order}
+use Rattle.lines.specs.Model.{lent, asked, inTurn, Answered, answeredText, Pending}
 use Rattle.lines.specs.Feeding.{keptAll, stretch}
 use Rattle.lines.specs.PendingLine.{kept-row}
-use Rattle.lines.specs.Rows.{FarmRow, pendingOf, rowIn, byRow, allowancesIn, row-farm, row-turn, row-unread, unread-text, opening-text, call-text, move-called}
+use Rattle.lines.specs.Orders.{orderOf, orderTurn, orderAnswer, order-is, open-kind}
+use Rattle.lines.specs.Rows.{FarmRow, pendingOf, rowIn, byRow, allowancesIn, row-farm, row-turn, row-unread, unread-text, opening-text, move-called}
 use Rattle.protocol.specs.Reachable.{Reachable, reachable-passes, reachable-sized}
-use Rattle.protocol.specs.CallSteps.{clock-plain, rows-asked, rows-fit, clock-text}
+use Rattle.protocol.specs.CallSteps.{command-text, query-text, query-keeps, decided-granted, decided-refused, clock-plain, rows-asked, rows-fit, clock-text}
 use Rattle.protocol.specs.Blocks.{DayAt, day-start, day-reachable, day-took, day-rest, day-line}
 use Rattle.protocol.proofs.blocks.answer_block.Statement.{statement}
 use Rattle.protocol.proofs.blocks.answer_block.Tie as tie
@@ -46,46 +43,39 @@ From {A} {B} f = A
 abbrev To : {A B : Type 0} → (A → B) → Type 0
 To {A} {B} f = B
 
-enum-told : tie.Need-enum-told Inv-loop μ-loop
-enum-told c = search needs
+enum-known-order : tie.Need-enum-known-order Inv-loop μ-loop
+enum-known-order c = search needs
 
-array-read-farm : tie.Need-array-read-farm Inv-loop μ-loop
-array-read-farm c = search needs
-
--- where the call of a line in its turn is chosen
+-- where what a line in its turn asks for is chosen
 abbrev Choice : Type 0
-Choice = To (λ (c : From enum-told). c .before)
+Choice = To (λ (c : From enum-known-order). c .before)
 
 -- where it is known whether a line is in its turn
 abbrev Turn : Type 0
-Turn = To (λ (n : Choice). n .before .before)
+Turn = To (λ (n : Choice). n .before)
 
 -- where a line begins
 abbrev Line : Type 0
-Line = To (λ (t : Turn). t .before .before .before .before .before .before .before .before)
+Line = To (λ (t : Turn). t .before .before .before .before .before .before .before .before .before)
 
 -- where the function is entered
 abbrev Entry : Type 0
 Entry = To (λ (l : Line). l .before .before .before .before .before .before)
 
--- where a clock move is granted
-abbrev Granted : Type 0
-Granted = To (λ (c : From array-read-farm). c .before .before)
-
 abbrev line : Turn → Line
-line t = t .before .before .before .before .before .before .before .before
+line t = t .before .before .before .before .before .before .before .before .before
 
 abbrev entry : Turn → Entry
 entry t = line t .before .before .before .before .before .before
 
 abbrev end : Turn → ℕ
-end t = t .before .before .before .before .before .find .result
+end t = t .before .before .before .before .before .before .find .result
 
 abbrev row : Turn → Row
-row t = t .before .row-behind .result
+row t = t .before .before .row-behind .result
 
-abbrev first : Turn → ℕ
-first t = getD (row t .numbers) 0 0
+abbrev order : Turn → Order
+order t = t .before .order-of .result
 
 abbrev farm : Turn → Farm
 farm t = line t .loop .farm
@@ -95,7 +85,7 @@ abbrev ending : Turn → Pending
 ending t = keptAll (pendingOf (line t .loop .rest)) (stretch (line t .loop .next) (end t) (entry t .args .block .now))
 
 row-is : (t : Turn) → row t ≡ rowIn (ending t)
-row-is t = t .before .row-behind .ensures
+row-is t = t .before .before .row-behind .ensures
 
 -- the day where the next line begins
 abbrev Onward : Turn → Farm → ℕ → List ℕ → Type 0
@@ -105,7 +95,7 @@ Onward t later place back =
 
 -- where the end of a line is found
 abbrev Found : Type 0
-Found = To (λ (t : Turn). t .before .before .before .before .before)
+Found = To (λ (t : Turn). t .before .before .before .before .before .before)
 
 -- It is in the block, or the block's end.
 within : (c : Found) → c .find .result ≤ length (c .before .before .before .before .before .before .before .before .before .args .block .now)
@@ -113,15 +103,15 @@ within c = next-within _ (c .before .before .before .before .before .before .bef
 
 module _ (t : Turn) where
   inside : end t < length (entry t .args .block .now)
-  inside = omega (arith, within (t .before .before .before .before .before), t .before .before .before .before .if3 .left)
+  inside = omega (arith, within (t .before .before .before .before .before .before), t .before .before .before .before .before .if3 .left)
 
   -- Less of the block is left.
   less : length (entry t .args .block .now) - (end t + 1) < length (entry t .args .block .now) - line t .loop .next
-  less = omega (arith, t .before .before .before .before .before .find .ensures, inside)
+  less = omega (arith, t .before .before .before .before .before .before .find .ensures, inside)
 
   -- The largest answer fits.
   room : line t .loop .at + 180400 ≤ length (line t .loop .out)
-  room = omega (arith, line t .loop .inv .0 .size, line t .loop .inv .1, t .before .before .before .before .before .before .if2 .left)
+  room = omega (arith, line t .loop .inv .0 .size, line t .loop .inv .1, t .before .before .before .before .before .before .before .if2 .left)
 
   -- The line ends and is answered.
   answers : {x : Answered} {later : Farm} {most place : ℕ} {back : List ℕ} → byRow (farm t) (row t) ≡ x → later ≡ x .farm
@@ -129,22 +119,32 @@ module _ (t : Turn) where
   answers b d p h =
       let i = line t .loop .inv in
       let said = kept-row (farm t) (line t .loop .rest) (stretch (line t .loop .next) (end t) (entry t .args .block .now)) ∙ sym (ap (byRow (farm t)) (row-is t)) ∙ b in
-      (day-line (i .0) (t .before .before .before .before .before .find .ensures) inside said d refl p (omega (arith, p .within, room, i .0 .size)), i .1)
+      (day-line (i .0) (t .before .before .before .before .before .before .find .ensures) inside said d refl p (omega (arith, p .within, room, i .0 .size)), i .1)
+
+  -- Its order is that of its row, and in its turn where the row is.
+  order-row : order t ≡ orderOf (row t .kind) (row t .count) (row t .numbers)
+  order-row = t .before .order-of .ensures
+
+  turn-is : inTurn (asked (row t .kind)) (farm t .opened) ≡ orderTurn (order t) (farm t .opened)
+  turn-is = order-is (farm t) (row t .kind) (row t .count) (row t .numbers) (allowancesIn (row t)) (farm t .opened) .0 ∙ ap (λ (o : Order). orderTurn o (farm t .opened)) (sym order-row)
 
 module _ (n : Choice) where
   abbrev turn : Turn
-  turn = n .before .before
+  turn = n .before
 
-  in-its-turn : inTurn (asked (row turn .kind)) (farm turn .opened) ≡ true
-  in-its-turn = sym (turn .in-turn .ensures) ∙ not-false _ (n .before .if4 .left)
+  in-its-turn : orderTurn (order turn) (farm turn .opened) ≡ true
+  in-its-turn = sym (turn .in-turn .ensures) ∙ not-false _ (n .if4 .left)
 
-  module _ {k : Kind} (told : row turn .kind ≡ k) where
-    kind-turn : inTurn (asked k) (farm turn .opened) ≡ true
-    kind-turn = subst (λ (x : Kind). inTurn (asked x) (farm turn .opened) ≡ true) told in-its-turn
+  module _ {o : Order} (told : order turn ≡ o) where
+    order-turn : orderTurn o (farm turn .opened) ≡ true
+    order-turn = subst (λ (x : Order). orderTurn x (farm turn .opened) ≡ true) told in-its-turn
 
-    -- It is answered what a line of its kind asks for.
-    by-kind : byRow (farm turn) (row turn) ≡ answerTo (farm turn) (asked k) (row turn .count) (row turn .numbers) (allowancesIn (row turn))
-    by-kind = row-turn (farm turn) (row turn) in-its-turn ∙ ap (λ (x : Kind). answerTo (farm turn) (asked x) (row turn .count) (row turn .numbers) (allowancesIn (row turn))) told
+    -- It is answered what its order is.
+    by-order : byRow (farm turn) (row turn) ≡ orderAnswer (farm turn) o (row turn .numbers) (allowancesIn (row turn))
+    by-order =
+        row-turn (farm turn) (row turn) (turn-is turn ∙ in-its-turn)
+        ∙ order-is (farm turn) (row turn .kind) (row turn .count) (row turn .numbers) (allowancesIn (row turn)) (farm turn .opened) .1
+        ∙ ap (λ (x : Order). orderAnswer (farm turn) x (row turn .numbers) (allowancesIn (row turn))) (sym (order-row turn) ∙ told)
 
   reaches : Reachable (farm turn)
   reaches = day-reachable (line turn .loop .inv .0) (entry turn .pre)
@@ -153,15 +153,22 @@ module _ (n : Choice) where
   passes : farm turn .opened ≡ true → passesOf (farm turn) ≡ true
   passes o = reachable-passes (farm turn) reaches o
 
+put-answer-requires-4 : tie.Need-put-answer-requires-4 Inv-loop μ-loop
+put-answer-requires-4 c κs = omega (arith, room (turn (c .before .before .before .before .before .before .before .before .before .before)))
+
+-- where a clock move is granted
+abbrev Granted : Type 0
+Granted = To (λ (c : From put-answer-requires-4). c .before .before .before)
+
 module _ (g : Granted) where
   abbrev choice : Choice
-  choice = g .before .before .before .before .before .before
+  choice = g .before .before .before .before .before .before .before
 
   abbrev old : Farm
   old = farm (turn choice)
 
   abbrev time : ℕ
-  time = first (turn choice)
+  time = g .before .before .before .before .before .order3 .given .0 .0
 
   abbrev step : Move
   step = g .before .before .before .move-unchecked .result
@@ -173,7 +180,7 @@ module _ (g : Granted) where
   granted = not-false _ (g .if6 .left)
 
   is-open : old .opened ≡ true
-  is-open = kind-turn choice (g .before .before .before .before .enum-told3 .given .1)
+  is-open = order-turn choice (g .before .before .before .before .before .order3 .given .1)
 
   sized : Sized old
   sized = reachable-sized old (reaches choice) is-open
@@ -214,11 +221,14 @@ returns-3 c =
     let w = c .with-bytes in
     day-rest (c .before .before .before .before .before .loop .inv .0) (c .before .before .find .ensures) (w .result) (w .ensures) (c .before .if3 .taken)
 
+row-behind-requires : tie.Need-row-behind-requires Inv-loop μ-loop
+row-behind-requires c κs = (omega (arith, c .before .before .before .find .ensures), within (c .before .before .before))
+
 add-next : tie.Need-add-next Inv-loop μ-loop
 add-next c = let w = within (c .before .before .before .before) in search needs
 
-row-behind-requires : tie.Need-row-behind-requires Inv-loop μ-loop
-row-behind-requires c κs = (omega (arith, c .before .before .before .find .ensures), within (c .before .before .before))
+order-of-requires : tie.Need-order-of-requires Inv-loop μ-loop
+order-of-requires c κs = search needs
 
 in-turn-requires : tie.Need-in-turn-requires Inv-loop μ-loop
 in-turn-requires c κs = search needs
@@ -232,52 +242,39 @@ loop-less c = less (c .before .before .before .before .before)
 loop-again : tie.Need-loop-again Inv-loop μ-loop
 loop-again c =
     let t = c .before .before .before .before .before in
-    answers t (row-unread (farm t) (row t) (sym (t .in-turn .ensures) ∙ not-true _ (c .before .before .before .before .if4 .taken))) refl (within-same (unread-text (farm t)) (c .before .before .put-unread .ensures)) (omega arith)
+    answers t (row-unread (farm t) (row t) (turn-is t ∙ sym (t .in-turn .ensures) ∙ not-true _ (c .before .before .before .before .if4 .taken))) refl (within-same (unread-text (farm t)) (c .before .before .put-unread .ensures)) (omega arith)
 
-array-read-account-unchecked : tie.Need-array-read-account-unchecked Inv-loop μ-loop
-array-read-account-unchecked c = search needs
-
-account-unchecked-requires : tie.Need-account-unchecked-requires Inv-loop μ-loop
-account-unchecked-requires c κs = let n = c .before .before .before in passes n (kind-turn n (c .before .enum-told .given .1))
+tell-unchecked-requires : tie.Need-tell-unchecked-requires Inv-loop μ-loop
+tell-unchecked-requires c κs = let n = c .before .before .before .before in passes n (order-turn n (c .before .before .order .given .1))
 
 put-answer-requires : tie.Need-put-answer-requires Inv-loop μ-loop
-put-answer-requires c κs = omega (arith, room (turn (c .before .before .before .before)))
+put-answer-requires c κs = omega (arith, room (turn (c .before .before .before .before .before)))
 
 loop-less-2 : tie.Need-loop-less-2 Inv-loop μ-loop
-loop-less-2 c = less (turn (c .before .before .before .before .before .before .before))
+loop-less-2 c = less (turn (c .before .before .before .before .before .before .before .before))
 
 loop-again-2 : tie.Need-loop-again-2 Inv-loop μ-loop
 loop-again-2 c =
-    let n = c .before .before .before .before .before .before .before in
-    answers (turn n) (by-kind n (c .before .before .before .before .before .enum-told .given .1)) refl (within-same (call-text (farm (turn n)) (account (first (turn n))) refl (c .before .before .before .account-unchecked .ensures)) (c .before .before .put-answer .ensures)) (omega arith)
+    let n = c .before .before .before .before .before .before .before .before in
+    answers (turn n) (by-order n (c .before .before .before .before .before .before .order .given .1)) (sym (query-keeps (farm (turn n)) (c .before .before .before .before .before .before .order .given .0 .0))) (within-same (query-text (farm (turn n)) (c .before .before .before .before .before .before .order .given .0 .0) (c .before .before .before .tell-unchecked .ensures)) (c .before .before .put-answer .ensures)) (omega arith)
 
-enum-told-2 : tie.Need-enum-told-2 Inv-loop μ-loop
-enum-told-2 c = search needs
+enum-known-order-2 : tie.Need-enum-known-order-2 Inv-loop μ-loop
+enum-known-order-2 c = search needs
 
-offered-requires : tie.Need-offered-requires Inv-loop μ-loop
-offered-requires c κs = search needs
-
-offer-unchecked-requires : tie.Need-offer-unchecked-requires Inv-loop μ-loop
-offer-unchecked-requires c κs = let n = c .before .before .before in passes n (kind-turn n (c .before .enum-told2 .given .1))
+decide-unchecked-requires : tie.Need-decide-unchecked-requires Inv-loop μ-loop
+decide-unchecked-requires c κs = let n = c .before .before .before in passes n (order-turn n (c .before .order2 .given .1))
 
 put-answer-requires-2 : tie.Need-put-answer-requires-2 Inv-loop μ-loop
 put-answer-requires-2 c κs = omega (arith, room (turn (c .before .before .before .before .before)))
 
-add-farm : tie.Need-add-farm Inv-loop μ-loop
-add-farm c = omega (arith, c .before .before .before .before .before .before .before .offer-unchecked .ensures .accepts (c .before .before .if5 .taken) .2)
-
-add-farm-2 : tie.Need-add-farm-2 Inv-loop μ-loop
-add-farm-2 c = omega (arith, c .before .before .before .before .before .before .before .before .offer-unchecked .ensures .accepts (c .before .before .before .if5 .taken) .1)
-
 loop-less-3 : tie.Need-loop-less-3 Inv-loop μ-loop
-loop-less-3 c = less (turn (c .before .before .before .before .before .before .before .before .before .before .before .before))
+loop-less-3 c = less (turn (c .before .before .before .before .before .before .before .before .before .before))
 
 loop-again-3 : tie.Need-loop-again-3 Inv-loop μ-loop
 loop-again-3 c =
-    let n = c .before .before .before .before .before .before .before .before .before .before .before .before in
-    let r = c .before .before .before .before .before .before .before .before .offer-unchecked in
-    let d = subst (λ (x : Offer). Decides (farm (turn n)) x (r .result)) (c .before .before .before .before .before .before .before .before .before .offered .ensures) (r .ensures) in
-    answers (turn n) (by-kind n (c .before .before .before .before .before .before .before .before .before .before .enum-told2 .given .1)) (sym (d .accepts (c .before .before .before .if5 .taken) .0)) (within-same (call-text (farm (turn n)) (offer (offerIn (row (turn n) .count) (row (turn n) .numbers))) refl (d .says)) (c .before .before .before .before .before .before .put-answer2 .ensures)) (omega arith)
+    let n = c .before .before .before .before .before .before .before .before .before .before in
+    let d = c .before .before .before .before .before .before .decide-unchecked .ensures in
+    answers (turn n) (by-order n (c .before .before .before .before .before .before .before .before .order2 .given .1)) (decided-granted d (c .before .if5 .taken)) (within-same (command-text (farm (turn n)) (c .before .before .before .before .before .before .before .before .order2 .given .0 .0) (d .says)) (c .before .before .before .before .put-answer2 .ensures)) (omega arith)
 
 loop-less-4 : tie.Need-loop-less-4 Inv-loop μ-loop
 loop-less-4 c = less (turn (c .before .before .before .before .before .before .before .before .before))
@@ -285,50 +282,41 @@ loop-less-4 c = less (turn (c .before .before .before .before .before .before .b
 loop-again-4 : tie.Need-loop-again-4 Inv-loop μ-loop
 loop-again-4 c =
     let n = c .before .before .before .before .before .before .before .before .before in
-    let r = c .before .before .before .before .before .offer-unchecked in
-    let d = subst (λ (x : Offer). Decides (farm (turn n)) x (r .result)) (c .before .before .before .before .before .before .offered .ensures) (r .ensures) in
-    answers (turn n) (by-kind n (c .before .before .before .before .before .before .before .enum-told2 .given .1)) (sym (d .refuses (c .if5 .left))) (within-same (call-text (farm (turn n)) (offer (offerIn (row (turn n) .count) (row (turn n) .numbers))) refl (d .says)) (c .before .before .before .put-answer2 .ensures)) (omega arith)
+    let d = c .before .before .before .before .before .decide-unchecked .ensures in
+    answers (turn n) (by-order n (c .before .before .before .before .before .before .before .order2 .given .1)) (decided-refused d (c .if5 .left)) (within-same (command-text (farm (turn n)) (c .before .before .before .before .before .before .before .order2 .given .0 .0) (d .says)) (c .before .before .before .put-answer2 .ensures)) (omega arith)
 
-enum-told-3 : tie.Need-enum-told-3 Inv-loop μ-loop
-enum-told-3 c = search needs
-
-array-read-move-unchecked : tie.Need-array-read-move-unchecked Inv-loop μ-loop
-array-read-move-unchecked c = search needs
+enum-known-order-3 : tie.Need-enum-known-order-3 Inv-loop μ-loop
+enum-known-order-3 c = search needs
 
 move-unchecked-requires : tie.Need-move-unchecked-requires Inv-loop μ-loop
-move-unchecked-requires c κs = let n = c .before .before in passes n (kind-turn n (c .enum-told3 .given .1))
+move-unchecked-requires c κs = let n = c .before .before .before in passes n (order-turn n (c .before .order3 .given .1))
 
 put-answer-requires-3 : tie.Need-put-answer-requires-3 Inv-loop μ-loop
-put-answer-requires-3 c κs = omega (arith, room (turn (c .before .before .before .before .before .before .before)))
+put-answer-requires-3 c κs = omega (arith, room (turn (c .before .before .before .before .before .before .before .before)))
 
 loop-less-5 : tie.Need-loop-less-5 Inv-loop μ-loop
-loop-less-5 c = less (turn (c .before .before .before .before .before .before .before .before .before .before))
+loop-less-5 c = less (turn (c .before .before .before .before .before .before .before .before .before .before .before))
 
 loop-again-5 : tie.Need-loop-again-5 Inv-loop μ-loop
 loop-again-5 c =
-    let n = c .before .before .before .before .before .before .before .before .before .before in
+    let n = c .before .before .before .before .before .before .before .before .before .before .before in
     let m = c .before .before .before .before .before .before .before .move-unchecked in
-    let k = move-refused (farm (turn n)) (first (turn n)) lent (m .result) (m .ensures) (not-true _ (c .before .before .before .before .if6 .taken)) in
-    answers (turn n) (by-kind n (c .before .before .before .before .before .before .before .before .enum-told3 .given .1) ∙ move-called (farm (turn n)) (first (turn n))) (sym (k .0)) (within-same (clock-plain (farm (turn n)) (first (turn n)) _ (k .1) (m .ensures .says)) (c .before .before .put-answer3 .ensures)) (omega arith)
-
-put-answer-requires-4 : tie.Need-put-answer-requires-4 Inv-loop μ-loop
-put-answer-requires-4 c κs = omega (arith, room (turn (c .before .before .before .before .before .before .before .before .before)))
+    let t = c .before .before .before .before .before .before .before .before .before .order3 .given .0 .0 in
+    let k = move-refused (farm (turn n)) t lent (m .result) (m .ensures) (not-true _ (c .before .before .before .before .if6 .taken)) in
+    answers (turn n) (by-order n (c .before .before .before .before .before .before .before .before .before .order3 .given .1) ∙ move-called (farm (turn n)) t) (sym (k .0)) (within-same (clock-plain (farm (turn n)) t _ (k .1) (m .ensures .says)) (c .before .before .put-answer3 .ensures)) (omega arith)
 
 loop-less-6 : tie.Need-loop-less-6 Inv-loop μ-loop
-loop-less-6 c = less (turn (c .before .before .before .before .before .before .before .before .before .before .before .before))
+loop-less-6 c = less (turn (c .before .before .before .before .before .before .before .before .before .before .before .before .before))
 
 loop-again-6 : tie.Need-loop-again-6 Inv-loop μ-loop
 loop-again-6 c =
     let g = c .before .before .before .before .before .before in
     let k = move-taken (old g) (time g) lent (step g) (decides g) (granted g) in
     let q = none-due-yet (old g) (time g) (step g .due) (sized g) (begins g) (c .before .before .before .before .if7 .taken) in
-    answers (turn (choice g)) (by-kind (choice g) (g .before .before .before .before .enum-told3 .given .1) ∙ move-called (old g) (time g)) (q .0 ∙ sym (k .0)) (within-same (clock-plain (old g) (time g) _ (k .1 ∙ q .1) (decides g .says)) (c .before .before .put-answer4 .ensures)) (omega arith)
+    answers (turn (choice g)) (by-order (choice g) (g .before .before .before .before .before .order3 .given .1) ∙ move-called (old g) (time g)) (q .0 ∙ sym (k .0)) (within-same (clock-plain (old g) (time g) _ (k .1 ∙ q .1) (decides g .says)) (c .before .before .put-answer4 .ensures)) (omega arith)
 
 write-rows-requires : tie.Need-write-rows-requires Inv-loop μ-loop
 write-rows-requires c κs = let g = c .before .before .before .before .before .before in rows-asked (old g) (time g) (step g) (sized g) (begins g) (decides g) (granted g)
-
-array-read-moved : tie.Need-array-read-moved Inv-loop μ-loop
-array-read-moved c = search needs
 
 moved-requires : tie.Need-moved-requires Inv-loop μ-loop
 moved-requires c κs = begins (c .before .before .before .before .before .before .before)
@@ -340,19 +328,21 @@ put-move-requires c κs =
     (f .0, f .1, room (turn (choice g)))
 
 loop-less-7 : tie.Need-loop-less-7 Inv-loop μ-loop
-loop-less-7 c = less (turn (c .before .before .before .before .before .before .before .before .before .before .before .before .before .before .before .before .before .before .before))
+loop-less-7 c = less (turn (c .before .before .before .before .before .before .before .before .before .before .before .before .before .before .before .before .before .before .before .before))
 
 loop-again-7 : tie.Need-loop-again-7 Inv-loop μ-loop
 loop-again-7 c =
     let g = c .before .before .before .before .before .before .before .before .before .before .before .before .before in
     let k = move-taken (old g) (time g) lent (step g) (decides g) (granted g) in
-    answers (turn (choice g)) (by-kind (choice g) (g .before .before .before .before .enum-told3 .given .1) ∙ move-called (old g) (time g)) (c .before .before .before .before .before .moved .ensures ∙ sym (k .0)) (within-same (clock-text (old g) (time g) (step g) (sized g) (begins g) (decides g) (granted g) _ _ (c .before .before .before .before .before .before .write-rows .ensures)) (c .before .before .put-move .ensures)) (omega arith)
+    answers (turn (choice g)) (by-order (choice g) (g .before .before .before .before .before .order3 .given .1) ∙ move-called (old g) (time g)) (c .before .before .before .before .before .moved .ensures ∙ sym (k .0)) (within-same (clock-text (old g) (time g) (step g) (sized g) (begins g) (decides g) (granted g) _ _ (c .before .before .before .before .before .before .write-rows .ensures)) (c .before .before .put-move .ensures)) (omega arith)
 
-enum-told-4 : tie.Need-enum-told-4 Inv-loop μ-loop
-enum-told-4 c = search needs
+enum-told : tie.Need-enum-told Inv-loop μ-loop
+enum-told c = search needs
 
 opening-requires : tie.Need-opening-requires Inv-loop μ-loop
-opening-requires c κs = subst FarmRow (sym (row-is (c .before .before .before .before))) (row-farm (ending (c .before .before .before .before))) (c .enum-told4 .given .1)
+opening-requires c κs =
+    let t = c .before .before .before in
+    subst FarmRow (sym (row-is t)) (row-farm (ending t)) (open-kind (row t .kind) _ _ (sym (order-row t) ∙ c .enum-told .given .1))
 
 put-answer-requires-5 : tie.Need-put-answer-requires-5 Inv-loop μ-loop
 put-answer-requires-5 c κs = omega (arith, room (turn (c .before .before .before .before .before)))
@@ -364,76 +354,21 @@ loop-again-8 : tie.Need-loop-again-8 Inv-loop μ-loop
 loop-again-8 c =
     let n = c .before .before .before .before .before .before .before .before in
     let p = c .before .before .before .before .before .opening .ensures in
-    answers (turn n) (by-kind n (c .before .before .before .before .before .before .enum-told4 .given .1)) (p .hands) (within-same (opening-text (row (turn n) .numbers) (allowancesIn (row (turn n))) (p .says)) (c .before .before .put-answer5 .ensures)) (omega arith)
+    answers (turn n) (by-order n (c .before .before .before .before .before .before .enum-told .given .1)) (p .hands) (within-same (opening-text (row (turn n) .numbers) (allowancesIn (row (turn n))) (p .says)) (c .before .before .put-answer5 .ensures)) (omega arith)
 
-enum-told-5 : tie.Need-enum-told-5 Inv-loop μ-loop
-enum-told-5 c = search needs
-
-array-read-withdraw-unchecked : tie.Need-array-read-withdraw-unchecked Inv-loop μ-loop
-array-read-withdraw-unchecked c = search needs
-
-withdraw-unchecked-requires : tie.Need-withdraw-unchecked-requires Inv-loop μ-loop
-withdraw-unchecked-requires c κs = let n = c .before .before in passes n (kind-turn n (c .enum-told5 .given .1))
-
-put-answer-requires-6 : tie.Need-put-answer-requires-6 Inv-loop μ-loop
-put-answer-requires-6 c κs = omega (arith, room (turn (c .before .before .before .before)))
-
-sub-farm : tie.Need-sub-farm Inv-loop μ-loop
-sub-farm c = omega (arith, c .before .before .before .before .before .before .before .withdraw-unchecked .ensures .grants (c .before .before .if8 .taken) .1)
-
-loop-less-9 : tie.Need-loop-less-9 Inv-loop μ-loop
-loop-less-9 c = less (turn (c .before .before .before .before .before .before .before .before .before .before))
-
-loop-again-9 : tie.Need-loop-again-9 Inv-loop μ-loop
-loop-again-9 c =
-    let n = c .before .before .before .before .before .before .before .before .before .before in
-    let d = c .before .before .before .before .before .before .before .withdraw-unchecked .ensures in
-    answers (turn n) (by-kind n (c .before .before .before .before .before .before .before .before .enum-told5 .given .1)) (sym (d .grants (c .before .before .if8 .taken) .0)) (within-same (call-text (farm (turn n)) (withdraw (first (turn n))) refl (d .says)) (c .before .before .before .before .before .put-answer6 .ensures)) (omega arith)
-
-loop-less-10 : tie.Need-loop-less-10 Inv-loop μ-loop
-loop-less-10 c = less (turn (c .before .before .before .before .before .before .before .before))
-
-loop-again-10 : tie.Need-loop-again-10 Inv-loop μ-loop
-loop-again-10 c =
-    let n = c .before .before .before .before .before .before .before .before in
-    let d = c .before .before .before .before .before .withdraw-unchecked .ensures in
-    answers (turn n) (by-kind n (c .before .before .before .before .before .before .enum-told5 .given .1)) (sym (d .refuses (c .if8 .left))) (within-same (call-text (farm (turn n)) (withdraw (first (turn n))) refl (d .says)) (c .before .before .before .put-answer6 .ensures)) (omega arith)
-
-enum-told-6 : tie.Need-enum-told-6 Inv-loop μ-loop
-enum-told-6 c = search needs
-
-offered-requires-2 : tie.Need-offered-requires-2 Inv-loop μ-loop
-offered-requires-2 c κs = search needs
-
-quote-unchecked-requires : tie.Need-quote-unchecked-requires Inv-loop μ-loop
-quote-unchecked-requires c κs = let n = c .before .before .before .before in passes n (kind-turn n (c .before .before .enum-told6 .given .1))
-
-put-answer-requires-7 : tie.Need-put-answer-requires-7 Inv-loop μ-loop
-put-answer-requires-7 c κs = omega (arith, room (turn (c .before .before .before .before .before)))
-
-loop-less-11 : tie.Need-loop-less-11 Inv-loop μ-loop
-loop-less-11 c = less (turn (c .before .before .before .before .before .before .before .before))
-
-loop-again-11 : tie.Need-loop-again-11 Inv-loop μ-loop
-loop-again-11 c =
-    let n = c .before .before .before .before .before .before .before .before in
-    let q = c .before .before .before .quote-unchecked .ensures in
-    let said = q ∙ ap (quoteSaid (farm (turn n))) (c .before .before .before .before .offered2 .ensures) in
-    answers (turn n) (by-kind n (c .before .before .before .before .before .before .enum-told6 .given .1)) refl (within-same (call-text (farm (turn n)) (quote (offerIn (row (turn n) .count) (row (turn n) .numbers))) refl said) (c .before .before .put-answer7 .ensures)) (omega arith)
-
-enum-told-7 : tie.Need-enum-told-7 Inv-loop μ-loop
-enum-told-7 c = search needs
+enum-told-2 : tie.Need-enum-told-2 Inv-loop μ-loop
+enum-told-2 c = search needs
 
 put-unread-requires-2 : tie.Need-put-unread-requires-2 Inv-loop μ-loop
 put-unread-requires-2 c κs = omega (arith, room (turn (c .before .before .before)))
 
-loop-less-12 : tie.Need-loop-less-12 Inv-loop μ-loop
-loop-less-12 c = less (turn (c .before .before .before .before .before .before))
+loop-less-9 : tie.Need-loop-less-9 Inv-loop μ-loop
+loop-less-9 c = less (turn (c .before .before .before .before .before .before))
 
-loop-again-12 : tie.Need-loop-again-12 Inv-loop μ-loop
-loop-again-12 c =
+loop-again-9 : tie.Need-loop-again-9 Inv-loop μ-loop
+loop-again-9 c =
     let n = c .before .before .before .before .before .before in
-    answers (turn n) (by-kind n (c .before .before .before .before .enum-told7 .given .1)) refl (within-same (unread-text (farm (turn n))) (c .before .before .put-unread2 .ensures)) (omega arith)
+    answers (turn n) (by-order n (c .before .before .before .before .enum-told2 .given .1)) refl (within-same (unread-text (farm (turn n))) (c .before .before .put-unread2 .ensures)) (omega arith)
 
 same-length-3 : tie.Need-same-length-3 Inv-loop μ-loop
 same-length-3 c = search needs
@@ -458,65 +393,44 @@ answer-block-spec =
     returns-3
     row-behind-requires
     add-next
+    order-of-requires
     in-turn-requires
     put-unread-requires
     loop-less
     loop-again
-    enum-told
-    array-read-account-unchecked
-    account-unchecked-requires
+    enum-known-order
+    tell-unchecked-requires
     put-answer-requires
     loop-less-2
     loop-again-2
-    enum-told-2
-    offered-requires
-    offer-unchecked-requires
+    enum-known-order-2
+    decide-unchecked-requires
     put-answer-requires-2
-    add-farm
-    add-farm-2
     loop-less-3
     loop-again-3
     loop-less-4
     loop-again-4
-    enum-told-3
-    array-read-move-unchecked
+    enum-known-order-3
     move-unchecked-requires
     put-answer-requires-3
     loop-less-5
     loop-again-5
-    array-read-farm
     put-answer-requires-4
     loop-less-6
     loop-again-6
     write-rows-requires
-    array-read-moved
     moved-requires
     put-move-requires
     loop-less-7
     loop-again-7
-    enum-told-4
+    enum-told
     opening-requires
     put-answer-requires-5
     loop-less-8
     loop-again-8
-    enum-told-5
-    array-read-withdraw-unchecked
-    withdraw-unchecked-requires
-    put-answer-requires-6
-    sub-farm
+    enum-told-2
+    put-unread-requires-2
     loop-less-9
     loop-again-9
-    loop-less-10
-    loop-again-10
-    enum-told-6
-    offered-requires-2
-    quote-unchecked-requires
-    put-answer-requires-7
-    loop-less-11
-    loop-again-11
-    enum-told-7
-    put-unread-requires-2
-    loop-less-12
-    loop-again-12
     same-length-3
     returns-4)
