@@ -32,7 +32,7 @@ use Rattle.planner.specs.declared.Farm.{Farm}
 use Rattle.answers.specs.declared.Offer.{Offer}
 use Rattle.planner.specs.Model.{greatest, between, costsWithin, linesOf, byStart, waitingOf, Sized}
 use Rattle.planner.specs.Passes.{passesOf}
-use Rattle.planner.specs.Calls.{hasNumber, Open, Yes, Clock, Shown, Account, Gone, Quote, Said, granted, refused, showsWithin, openSaid, openFarm, unopened, openedWith, accountSaid, heldBy, allowanceOf, computeOf, planned, accepts, withPlan, ofNumber, yesOf, offerAsked, offerSaid, offerFarm, asQuote, quoteSaid, withdrawnFarm, withdrawSaid, withdrawFarm}
+use Rattle.planner.specs.Calls.{hasNumber, Open, Yes, Clock, Shown, Account, Gone, Quote, Said, granted, refused, showsWithin, openSaid, openFarm, unopened, openedWith, accountSaid, heldBy, allowanceOf, computeOf, planned, accepts, ofNumber, yesOf, offerAsked, offerSaid, asQuote, quoteSaid, withdrawnFarm, withdrawSaid, withdrawFarm}
 use Rattle.planner.specs.Clock.{startsBy, begun, issued, movedFarm, moveAsked, moveSaid, moveFarm, moveMemory, shown, shownAsked, shownSaid, shownMemory}
 use Rattle.planner.specs.CallLaws.{refused-hands}
 use Rattle.demands.specs.CallLists.{Call, quote, reply, handed}

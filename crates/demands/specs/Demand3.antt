@@ -31,7 +31,7 @@
 -- after it always hand back a farm that passes": passes; "shorter moves then get through, as no two jobs share a start": starts, next.
 use mathlib.Core.Path.{_≡_, refl, ap, sym, subst, _∙_}
 use mathlib.Core.List.{List, [], _∷_, _++_, map, map-map, List·Memᴰ, List·Memᴰ·head, List·Permᴰ, Permᴰ·map, Permᴰ·symm, Permᴰ·append-left}
-use mathlib.Core.Bool.{Bool, true, false, cond, _&&_, false≢true}
+use mathlib.Core.Bool.{Bool, true, false, cond, _&&_}
 use mathlib.Core.Logic.{_⊎_, inl, inr, ⊎-elim}
 use Prim.Native.Nat.{ℕ, zero, suc, _-_, _≤_, _<_, max}
 use native.Mathlib.Nat.{mul-le-mul-right}

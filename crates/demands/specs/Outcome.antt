@@ -19,7 +19,7 @@ use Rattle.planner.specs.Passes.{passesOf}
 use Rattle.walk.specs.Chunks.{lines-each}
 use Rattle.walk.specs.Order.{by-start-perm, by-deadline-perm}
 use Rattle.walk.specs.Plan.{plan-numbers}
-use Rattle.planner.specs.Calls.{granted, hasNumber, ofNumber, computeOf, newJob, queueOf, planned, accepts, withPlan, offerAsked, offerSaid, offerFarm, OfferGranted, withdrawnFarm, withdrawSaid, withdrawFarm}
+use Rattle.planner.specs.Calls.{granted, hasNumber, ofNumber, newJob, queueOf, planned, accepts, withPlan, offerAsked, offerSaid, offerFarm, OfferGranted, withdrawnFarm, withdrawSaid, withdrawFarm}
 use Rattle.planner.specs.OfferSteps.{offer-granted}
 use Rattle.planner.specs.Clock.{startsBy, begun, linesOfAll, issued, movedFarm, moveAsked, moveSaid, moveFarm, moveMemory}
 use Rattle.planner.specs.Call.{acceptedFrom}

@@ -1,19 +1,18 @@
 -- What follows of any call from whether it is granted, and the chunks that it issues.
 use Prim.Native.Nat.{ℕ, _+_}
-use mathlib.Core.Path.{_≡_, refl, ap, sym, _∙_}
-use mathlib.Core.List.{List, [], _∷_, _++_}
+use mathlib.Core.Path.{_≡_, refl, ap, sym}
+use mathlib.Core.List.{List, [], _∷_}
 use mathlib.Core.Bool.{Bool, true, false, cond, _&&_, false≢true}
 use lib.Dec.{eqb}
-use lib.ListN.{length, getD, take, drop}
+use lib.ListN.{length, drop}
 use lib.Seq.{take-at}
 use Rattle.walk.specs.declared.Chunk.{Chunk}
-use Rattle.answers.specs.declared.Offer.{Offer}
 use Rattle.planner.specs.declared.Farm.{Farm}
 use Rattle.planner.specs.Model.{waitingOf}
 use Rattle.planner.specs.Passes.{passesOf}
 use Rattle.planner.specs.Calls.{Said, Yes, Gone, Clock, granted, refused, hasNumber, ofNumber, planned, accepts, withPlan, yesOf, offerAsked, offerSaid, offerFarm, withdrawnFarm, withdrawSaid, withdrawFarm}
 use Rattle.planner.specs.Clock.{issued, movedFarm, moveAsked, moveSaid, moveFarm, moveMemory, moveLines}
-use Rattle.planner.specs.Call.{Call, offer, quote, withdraw, move, account, Noted, nothing, does, reply, handed, isGranted, noted}
+use Rattle.planner.specs.Call.{Call, offer, quote, withdraw, move, account, Noted, nothing, does, handed, isGranted, noted}
 
 -- ---- What is noted
 

@@ -2,7 +2,7 @@
 -- lines are the chunks that they issue, the jobs told `yes` those that they accept, and those told `gone` those that they withdraw (`read-lines`, with
 -- `chunks-reading`, `accepted-reading` and `gone-reading`). So demand 3, which is about lists of calls, can be said of what the program prints (DayDemand3).
 -- The definitions come first.
-use mathlib.Core.Path.{_≡_, refl, ap, sym, subst, _∙_}
+use mathlib.Core.Path.{_≡_, refl, ap, sym, _∙_}
 use mathlib.Core.List.{List, [], _∷_, _++_, map, append-nil, append-assoc}
 use mathlib.Core.Bool.{Bool, true, false, cond, not, _&&_}
 use Prim.Native.Nat.{ℕ}
