@@ -135,12 +135,14 @@ pub record Demand3 (f : Farm) (cs : List Call) (w : History) : Type 0 where
   -- They are issued, each once, all by the first granted clock move after its acceptance to reach the start it has at that move; or a granted withdrawal
   -- names it before, and none is issued.
   pub stories : (before : List Call) (c : Call) (after : List Call) → Split cs before c after
-      → All (λ (x : Accepted). Lifecycle x (handed (run (opening f) before .farm) c) after) (noted (run (opening f) before .farm) c .jobs)
+      → All (λ (x : Accepted). Lifecycle x (handed (run (opening f) before .farm) c) after)
+      (noted (run (opening f) before .farm) c .jobs)
   -- No others are ever issued.
   pub only : All (λ (y : Chunk). List·Memᴰ (y .job) (map (λ (x : Accepted). x .number) (w .jobs))) (w .lines)
   -- No later call alters an issued chunk: none issues a chunk of its job.
   pub unaltered : (before : List Call) (c : Call) (after : List Call) → Split cs before c after
-      → All (λ (y : Chunk). IssuesNone (y .job) (handed (run (opening f) before .farm) c) after) (noted (run (opening f) before .farm) c .lines)
+      → All (λ (y : Chunk). IssuesNone (y .job) (handed (run (opening f) before .farm) c) after)
+      (noted (run (opening f) before .farm) c .lines)
   -- No two chunks, issued or booked, share a tick of a node or of the link. The spans noted are those of the chunks issued.
   pub apart : Pairs Apart (w .spans ++ spansOfAll (w .farm .costs) (waitingOf (w .farm)))
   pub spans : map chunkOf (w .spans) ≡ w .lines
@@ -358,7 +360,8 @@ module _ (w : History) (i : Inv w) where
 new-among : (f : Farm) (c : Call) → Sized f → All (λ (x : Accepted). Among x (handed f c)) (noted f c .jobs)
 new-among f c z = go (outcome f c)
   where
-    all : (n : Noted) → noted f c ≡ n → All (λ (x : Accepted). Among x (handed f c)) (n .jobs) → All (λ (x : Accepted). Among x (handed f c)) (noted f c .jobs)
+    all : (n : Noted) → noted f c ≡ n → All (λ (x : Accepted). Among x (handed f c)) (n .jobs)
+        → All (λ (x : Accepted). Among x (handed f c)) (noted f c .jobs)
     all n q h = subst (λ (m : Noted). All (λ (x : Accepted). Among x (handed f c)) (m .jobs)) (sym q) h
 
     new-taken : (o : Offer) → Takes f o → Among (taken f o) (withPlan f (planned f o))
@@ -371,7 +374,8 @@ new-among f c z = go (outcome f c)
 
     go : Outcome f c → All (λ (x : Accepted). Among x (handed f c)) (noted f c .jobs)
     go (stays h q) = all nothing q tt
-    go (takes o e k h q) = all (accepting (taken f o) (planned f o)) q (subst (Among (taken f o)) (sym h) (new-taken o k), tt)
+    go (takes o e k h q) =
+        all (accepting (taken f o) (planned f o)) q (subst (Among (taken f o)) (sym h) (new-taken o k), tt)
     go (leaves n k h q) = all (withdrawing n) q tt
     go (moves t n k h q) = all (moving t (issued f t)) q tt
 
@@ -383,7 +387,8 @@ offer-walked w o i e =
     let n = passes-iff f (i .sized) .0 (i .passes) .within .nodes .1 in
     record {
       plans = ap (λ (m : Noted). lastOr (w .latest) (m .plans)) (k .2);
-      best = walk-best (termsOf f) (busyOf f) (queueOf f o) (walk-ready f (newJob f o) (offer-offered f o (k .0 .granted)))
+      best =
+          walk-best (termsOf f) (busyOf f) (queueOf f o) (walk-ready f (newJob f o) (offer-offered f o (k .0 .granted)))
           (omega (arith, n, i .sized .free)) (k .0 .books);
       clock = i .clock;
       free = node-free w i;
@@ -400,11 +405,14 @@ call-withdrawal f n z e =
       number = of-number-has n (waitingOf f) (k .0 .has);
       farm = k .1;
       order = now;
-      others = subst (λ (l : List Job). List·Permᴰ (waitingOf f) (ofNumber n (waitingOf f) ∷ l)) (sym now) (leaves-others f n z (k .0 .passes) (k .0 .has));
+      others =
+          subst (λ (l : List Job). List·Permᴰ (waitingOf f) (ofNumber n (waitingOf f) ∷ l)) (sym now)
+          (leaves-others f n z (k .0 .passes) (k .0 .has));
     }
 
 -- No call after it issues a chunk of a job that a call has issued.
-issued-issues-none : (w : History) (c : Call) (cs : List Call) → Inv w → All (λ (y : Chunk). IssuesNone (y .job) (handed (w .farm) c) cs) (noted (w .farm) c .lines)
+issued-issues-none : (w : History) (c : Call) (cs : List Call) → Inv w
+    → All (λ (y : Chunk). IssuesNone (y .job) (handed (w .farm) c) cs) (noted (w .farm) c .lines)
 issued-issues-none w c cs i = go (outcome (w .farm) c)
   where
     f : Farm

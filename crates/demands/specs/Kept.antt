@@ -26,9 +26,12 @@ handed-keeps f c = go (outcome f c)
   where
     go : Outcome f c → Keeps f (handed f c)
     go (stays h n) = subst (Keeps f) (sym h) (record { opened = refl; shows = refl; allowances = refl; costs = refl })
-    go (takes o e k h n) = subst (Keeps f) (sym h) (record { opened = refl; shows = refl; allowances = refl; costs = refl })
-    go (leaves i k h n) = subst (Keeps f) (sym h) (record { opened = refl; shows = refl; allowances = refl; costs = refl })
-    go (moves t i k h n) = subst (Keeps f) (sym h) (record { opened = refl; shows = refl; allowances = refl; costs = refl })
+    go (takes o e k h n) =
+        subst (Keeps f) (sym h) (record { opened = refl; shows = refl; allowances = refl; costs = refl })
+    go (leaves i k h n) =
+        subst (Keeps f) (sym h) (record { opened = refl; shows = refl; allowances = refl; costs = refl })
+    go (moves t i k h n) =
+        subst (Keeps f) (sym h) (record { opened = refl; shows = refl; allowances = refl; costs = refl })
 
 -- So it is of every list of calls.
 pub run-keeps : (w : History) (cs : List Call) → Keeps (w .farm) (run w cs .farm)
@@ -57,7 +60,9 @@ call-at f c none = go (outcome f c)
 
     go : Outcome f c → All (At (f .costs)) (noted f c .jobs)
     go (stays h n) = noting-all nothing n tt
-    go (takes o e k h n) = noting-all (accepting (taken f o) (planned f o)) n (ap (λ (x : ComputeCost). costsFor (f .costs) (computeOr (f .costs .compute) x)) (none o e), tt)
+    go (takes o e k h n) =
+        noting-all (accepting (taken f o) (planned f o)) n
+        (ap (λ (x : ComputeCost). costsFor (f .costs) (computeOr (f .costs .compute) x)) (none o e), tt)
     go (leaves i k h n) = noting-all (withdrawing i) n tt
     go (moves t i k h n) = noting-all (moving t (issued f t)) n tt
 

@@ -44,7 +44,9 @@ few-values (answer.Quote j s t k) = omega arith
 few-values (answer.No q) = omega arith
 
 kept-values : (vs : List ℕ) → length vs ≤ 8 → take (length vs) (padded 8 vs) ≡ vs
-kept-values vs h = ap (λ (l : List ℕ). take (length vs) (l ++ replicate (8 - length vs) 0)) (take-all 8 vs h) ∙ take-at vs (replicate (8 - length vs) 0) (length vs) refl
+kept-values vs h =
+    ap (λ (l : List ℕ). take (length vs) (l ++ replicate (8 - length vs) 0)) (take-all 8 vs h)
+    ∙ take-at vs (replicate (8 - length vs) 0) (length vs) refl
 
 -- The text of its line is that of the answer,
 pub line-text : (a : Answer) → textOf (lineWith (said a)) ≡ answerText (said a)

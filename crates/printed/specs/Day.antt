@@ -59,7 +59,8 @@ at-end-kept f [] = refl
 at-end-kept f (b ∷ q) =
     go (leb (length (b ∷ q)) longest) refl ∙ sym (append-nil (answeredText (answered f (b ∷ q)))) ∙ ap (answers f) (sym (prefixed-nil b q))
   where
-    go : (t : Bool) → leb (length (b ∷ q)) longest ≡ t → atEnd f (keptAll (part []) (b ∷ q)) ≡ answeredText (answered f (b ∷ q))
+    go : (t : Bool) → leb (length (b ∷ q)) longest ≡ t
+        → atEnd f (keptAll (part []) (b ∷ q)) ≡ answeredText (answered f (b ∷ q))
     go true e = ap (atEnd f) (kept-fits [] (b ∷ q) (omega (arith, leb-true (length (b ∷ q)) longest e)))
     go false e = ap (atEnd f) (kept-over [] (b ∷ q) (omega arith) (omega (arith, leb-false (length (b ∷ q)) longest e))) ∙ rw e
 
@@ -70,7 +71,8 @@ abbrev pub whole : Fed → List ℕ
 whole x = x .text ++ atEnd (x .farm) (x .pending)
 
 day-ends : (f : Farm) (q bs : List ℕ) (p : Pending) → ended f p ≡ answered f q → ((g : Farm) → whole (feed g (part []) bs) ≡ answers g (linesIn bs))
-    → whole (behind (answeredText (ended f p)) (feed (ended f p .farm) (part []) bs)) ≡ answers f (prefixed q ([] ∷ linesIn bs))
+    → whole (behind (answeredText (ended f p)) (feed (ended f p .farm) (part []) bs))
+    ≡ answers f (prefixed q ([] ∷ linesIn bs))
 unfolding answers
 day-ends f q bs p e h =
     append-assoc (answeredText (ended f p)) (feed (ended f p .farm) (part []) bs .text) _

@@ -103,7 +103,8 @@ wordCode No = 7
 abbrev pub sameWord : Word → Word → Bool
 sameWord v w = eqb (wordCode v) (wordCode w)
 
--- what an answer with this word tells by its values, where it is no refusal; other answers and `chunk` lines tell nothing
+-- what an answer with this word tells by its values, where it is no refusal; other answers and `chunk` lines tell
+-- nothing
 abbrev pub toldUnder : {A : Type 0} → Word → (List ℕ → A) → Print → List A
 toldUnder w g (chunk x) = []
 toldUnder w g (answer s) = cond (eqb (s .number) 0 && sameWord (s .word) w) (g (s .values) ∷ []) []
@@ -139,8 +140,10 @@ line-farm w l o = go (lineAsks l)
     ns = numbersOf l
 
     go : (a : Asks) → answeredWith (w .farm) a ns .farm ≡ run w (callIn a ns) .farm
-    go anOpening = ap (λ (b : Bool). cond {A = Answered} (not b) (openingWith ns (allowancesOf ns)) (unread (w .farm)) .farm) o
-    go (aCall g) = ap (λ (b : Bool). cond {A = Answered} b (called (w .farm) (g (length ns) ns)) (unread (w .farm)) .farm) o
+    go anOpening =
+        ap (λ (b : Bool). cond {A = Answered} (not b) (openingWith ns (allowancesOf ns)) (unread (w .farm)) .farm) o
+    go (aCall g) =
+        ap (λ (b : Bool). cond {A = Answered} b (called (w .farm) (g (length ns) ns)) (unread (w .farm)) .farm) o
     go noCall = refl
 
 farm-from : (w : History) (ls : List (List ℕ)) → w .farm .opened ≡ true → farmAfter (w .farm) ls ≡ run w (callsIn ls) .farm
@@ -203,12 +206,16 @@ collect-prints {A} g f (l ∷ ls) =
     collect-append g (linePrints f l) (prints (answered f l .farm) ls) ∙ ap (λ (xs : List A). collect g (linePrints f l) ++ xs) (collect-prints g (answered f l .farm) ls)
 
 -- what r reads of the answer to a call is what is kept of the call
-abbrev pub ReadsCall : {A : Type 0} → (Farm → List ℕ → Print → List A) → (History → List A) → History → List ℕ → Asks → Type 0
+abbrev pub ReadsCall : {A : Type 0} → (Farm → List ℕ → Print → List A) → (History → List A) → History → List ℕ → Asks
+    → Type 0
 ReadsCall r kept w ns anOpening = Unit
-ReadsCall r kept w ns (aCall g) = kept w ++ collect (r (w .farm) ns) (printsOf (called (w .farm) (g (length ns) ns))) ≡ kept (note w (g (length ns) ns))
+ReadsCall r kept w ns (aCall g) =
+    kept w ++ collect (r (w .farm) ns) (printsOf (called (w .farm) (g (length ns) ns))) ≡ kept
+    (note w (g (length ns) ns))
 ReadsCall r kept w ns noCall = Unit
 
--- of every line in its turn, what r reads is what is kept of the call that it is; it reads nothing of `no 11` and of an opening
+-- of every line in its turn, what r reads is what is kept of the call that it is; it reads nothing of `no 11` and of an
+-- opening
 pub record Reading {A : Type 0} (r : Farm → List ℕ → Print → List A) (kept : History → List A) : Type 0 where
   pub unread : (f : Farm) (ns : List ℕ) → r f ns (answer (refused 11)) ≡ []
   pub opens : (f : Farm) (ns : List ℕ) (n : ℕ) (c : FarmCosts) (al : List ℕ) → r f ns (answer (openSaid n c al)) ≡ []
@@ -230,7 +237,8 @@ module _ {A : Type 0} (r : Farm → List ℕ → Print → List A) (kept : Histo
   unfolding collect
   unread-none f ns = ap (λ (l : List A). l ++ []) (x .unread f ns)
 
-  line-read : (w : History) (l : List ℕ) → w .farm .opened ≡ true → kept w ++ collect (r (w .farm) (numbersOf l)) (linePrints (w .farm) l) ≡ kept (run w (lineCall l))
+  line-read : (w : History) (l : List ℕ) → w .farm .opened ≡ true
+      → kept w ++ collect (r (w .farm) (numbersOf l)) (linePrints (w .farm) l) ≡ kept (run w (lineCall l))
   unfolding answered answeredAs run
   line-read w l o = go (lineAsks l) (by-kind (ReadsCall r kept w ns) (x .calls w ns) l)
     where
@@ -244,11 +252,14 @@ module _ {A : Type 0} (r : Farm → List ℕ → Print → List A) (kept : Histo
       none = ap (λ (k : List A). kept w ++ k) (unread-none (w .farm) ns) ∙ append-nil (kept w)
 
       go : (a : Asks) → ReadsCall r kept w ns a → read (answeredWith (w .farm) a ns) ≡ kept (run w (callIn a ns))
-      go anOpening h = ap (λ (b : Bool). read (cond (not b) (openingWith ns (allowancesOf ns)) (unread (w .farm)))) o ∙ none
+      go anOpening h =
+          ap (λ (b : Bool). read (cond (not b) (openingWith ns (allowancesOf ns)) (unread (w .farm)))) o
+          ∙ none
       go (aCall g) h = ap (λ (b : Bool). read (cond b (called (w .farm) (g (length ns) ns)) (unread (w .farm)))) o ∙ h
       go noCall h = none
 
-  read-from : (w : History) (ls : List (List ℕ)) → w .farm .opened ≡ true → kept w ++ readIn r (w .farm) ls ≡ kept (run w (callsIn ls))
+  read-from : (w : History) (ls : List (List ℕ)) → w .farm .opened ≡ true
+      → kept w ++ readIn r (w .farm) ls ≡ kept (run w (callsIn ls))
   unfolding readIn callsIn run
   read-from w [] o = append-nil (kept w)
   read-from w (l ∷ ls) o =
@@ -259,7 +270,8 @@ module _ {A : Type 0} (r : Farm → List ℕ → Print → List A) (kept : Histo
       ∙ ap kept (sym (run-append w (lineCall l) (callsIn ls)))
 
   -- What is read of lines after an opening is what is noted of their calls, in order.
-  pub read-lines : (f : Farm) (ls : List (List ℕ)) → f .opened ≡ true → readIn r f ls ≡ kept (run (opening f) (callsIn ls))
+  pub read-lines : (f : Farm) (ls : List (List ℕ)) → f .opened ≡ true
+      → readIn r f ls ≡ kept (run (opening f) (callsIn ls))
   read-lines f ls o = ap (λ (k : List A). k ++ readIn r f ls) (sym (x .starts f)) ∙ read-from (opening f) ls o
 
   -- Before it nothing is read of a line.
@@ -313,11 +325,14 @@ grants-under f (move t m) e = ap (λ (s : Said). s .word) (move-writes f t m e .
 grants-under f (account s) e = ap (λ (s : Said). s .word) (account-says f s e)
 
 -- An opening is granted under another word than these.
-open-tells : {A : Type 0} (w : Word) (g : List ℕ → A) → sameWord Open w ≡ false → (n : ℕ) (c : FarmCosts) (al : List ℕ) → toldUnder w g (answer (openSaid n c al)) ≡ []
+open-tells : {A : Type 0} (w : Word) (g : List ℕ → A) → sameWord Open w ≡ false → (n : ℕ) (c : FarmCosts) (al : List ℕ)
+    → toldUnder w g (answer (openSaid n c al)) ≡ []
 unfolding openSaid
 open-tells {A} w g e n c al = go (between 1 n 64) (costsWithin c) (showsWithin al)
   where
-    go : (a b d : Bool) → toldUnder w g (answer (cond a (cond b (cond d (granted Open (n ∷ length al ∷ [])) (refused 3)) (refused 2)) (refused 1))) ≡ []
+    go : (a b d : Bool)
+        → toldUnder w g (answer (cond a (cond b (cond d (granted Open (n ∷ length al ∷ [])) (refused 3)) (refused 2)) (refused 1)))
+        ≡ []
     go true true true = ap (λ (b : Bool). cond {A = List A} b (g (n ∷ length al ∷ []) ∷ []) []) e
     go true true false = refl
     go true false d = refl
@@ -326,15 +341,19 @@ open-tells {A} w g e n c al = go (between 1 n 64) (costsWithin c) (showsWithin a
 -- ---- Accepted and withdrawn jobs
 
 -- Of what a line prints what its answer tells is read.
-told-after : {A : Type 0} (w : Word) (g : List ℕ → A) (xs : List Chunk) (s : Said) → collect (toldUnder w g) (map chunk xs ++ answer s ∷ []) ≡ toldUnder w g (answer s)
+told-after : {A : Type 0} (w : Word) (g : List ℕ → A) (xs : List Chunk) (s : Said)
+    → collect (toldUnder w g) (map chunk xs ++ answer s ∷ []) ≡ toldUnder w g (answer s)
 unfolding collect
 told-after w g [] s = append-nil (toldUnder w g (answer s))
 told-after w g (x ∷ xs) s = told-after w g xs s
 
 -- what is told under the word w of a granted call, by the numbers on its line, is what it notes
-abbrev TellsNoted : {A : Type 0} → Word → (Farm → List ℕ → List ℕ → A) → (Noted → List A) → Farm → List ℕ → Asks → Type 0
+abbrev TellsNoted : {A : Type 0} → Word → (Farm → List ℕ → List ℕ → A) → (Noted → List A) → Farm → List ℕ → Asks
+    → Type 0
 TellsNoted w g of f ns anOpening = Unit
-TellsNoted {A} w g of f ns (aCall h) = cond {A = List A} (sameWord (grantWord (h (length ns) ns)) w) (g f ns (reply f (h (length ns) ns) .values) ∷ []) [] ≡ of (does f (h (length ns) ns) .notes)
+TellsNoted {A} w g of f ns (aCall h) =
+    cond {A = List A} (sameWord (grantWord (h (length ns) ns)) w)
+    (g f ns (reply f (h (length ns) ns) .values) ∷ []) [] ≡ of (does f (h (length ns) ns) .notes)
 TellsNoted w g of f ns noCall = Unit
 
 -- what answers under a word tell is what is noted of granted calls
@@ -345,7 +364,8 @@ record ReadsAnswers {A : Type 0} (w : Word) (g : Farm → List ℕ → List ℕ 
   notes : (v : History) (c : Call) → kept (note v c) ≡ kept v ++ of (noted (v .farm) c)
   kinds : (f : Farm) (ns : List ℕ) (k : Kind) → TellsNoted w g of f ns (asked k)
 
-answers-reading : {A : Type 0} (w : Word) (g : Farm → List ℕ → List ℕ → A) (of : Noted → List A) (kept : History → List A) → ReadsAnswers w g of kept
+answers-reading : {A : Type 0} (w : Word) (g : Farm → List ℕ → List ℕ → A) (of : Noted → List A) (kept : History → List A)
+    → ReadsAnswers w g of kept
     → Reading (λ f ns. toldUnder w (g f ns)) kept
 answers-reading {A} w g of kept x = record {
   unread = λ f ns. refl;
@@ -354,15 +374,22 @@ answers-reading {A} w g of kept x = record {
   calls = λ v ns k. calls v ns (asked k) (x .kinds (v .farm) ns k);
 }
   where
-    told : (f : Farm) (ns : List ℕ) (c : Call) → cond {A = List A} (sameWord (grantWord c) w) (g f ns (reply f c .values) ∷ []) [] ≡ of (does f c .notes)
+    told : (f : Farm) (ns : List ℕ) (c : Call)
+        → cond {A = List A} (sameWord (grantWord c) w) (g f ns (reply f c .values) ∷ []) [] ≡ of (does f c .notes)
         → toldUnder w (g f ns) (answer (reply f c)) ≡ of (noted f c)
     told f ns c h = go (isGranted f c) refl
       where
-        go : (b : Bool) → isGranted f c ≡ b → cond {A = List A} (b && sameWord (reply f c .word) w) (g f ns (reply f c .values) ∷ []) [] ≡ of (cond b (does f c .notes) nothing)
-        go true e = ap (λ (v : Word). cond {A = List A} (sameWord v w) (g f ns (reply f c .values) ∷ []) []) (grants-under f c (eqb-true (reply f c .number) 0 e)) ∙ h
+        go : (b : Bool) → isGranted f c ≡ b
+            → cond {A = List A} (b && sameWord (reply f c .word) w) (g f ns (reply f c .values) ∷ []) []
+            ≡ of (cond b (does f c .notes) nothing)
+        go true e =
+            ap (λ (v : Word). cond {A = List A} (sameWord v w) (g f ns (reply f c .values) ∷ []) [])
+            (grants-under f c (eqb-true (reply f c .number) 0 e))
+            ∙ h
         go false e = sym (x .none)
 
-    calls : (v : History) (ns : List ℕ) (a : Asks) → TellsNoted w g of (v .farm) ns a → ReadsCall (λ f ns. toldUnder w (g f ns)) kept v ns a
+    calls : (v : History) (ns : List ℕ) (a : Asks) → TellsNoted w g of (v .farm) ns a
+        → ReadsCall (λ f ns. toldUnder w (g f ns)) kept v ns a
     calls v ns anOpening h = tt
     calls v ns (aCall k) h =
         let c = k (length ns) ns in
@@ -371,7 +398,8 @@ answers-reading {A} w g of kept x = record {
 
 -- What a granted call of each kind notes as accepted and as withdrawn is what it tells under `yes` and under `gone`.
 kind-tells : (f : Farm) (ns : List ℕ) (k : Kind)
-    → TellsNoted Yes (λ f ns vs. acceptedFrom f (offerIn (length ns) ns) (getD vs 0 0)) (λ (n : Noted). n .jobs) f ns (asked k) × TellsNoted Gone (λ f ns vs. getD vs 0 0) (λ (n : Noted). n .gone) f ns (asked k)
+    → TellsNoted Yes (λ f ns vs. acceptedFrom f (offerIn (length ns) ns) (getD vs 0 0)) (λ (n : Noted). n .jobs) f ns (asked k)
+    × TellsNoted Gone (λ f ns vs. getD vs 0 0) (λ (n : Noted). n .gone) f ns (asked k)
 kind-tells f ns kind.Farm = (tt, tt)
 kind-tells f ns kind.Job = (refl, refl)
 kind-tells f ns kind.Clock = (refl, refl)
@@ -382,20 +410,23 @@ kind-tells f ns kind.Unreadable = (tt, tt)
 
 -- The jobs that are told `yes` are those that the calls accept.
 pub accepted-reading : Reading acceptedOn (λ (w : History). w .jobs)
-accepted-reading = answers-reading Yes (λ f ns vs. acceptedFrom f (offerIn (length ns) ns) (getD vs 0 0)) (λ (n : Noted). n .jobs) (λ (w : History). w .jobs) (record {
-  other = refl;
-  none = refl;
-  starts = λ f. refl;
-  notes = λ v c. refl;
-  kinds = λ f ns k. kind-tells f ns k .0;
-})
+accepted-reading =
+    answers-reading Yes (λ f ns vs. acceptedFrom f (offerIn (length ns) ns) (getD vs 0 0)) (λ (n : Noted). n .jobs)
+    (λ (w : History). w .jobs) (record {
+      other = refl;
+      none = refl;
+      starts = λ f. refl;
+      notes = λ v c. refl;
+      kinds = λ f ns k. kind-tells f ns k .0;
+    })
 
 -- The jobs that are told `gone` are those that the calls withdraw.
 pub gone-reading : Reading (λ f ns. goneOn) (λ (w : History). w .gone)
-gone-reading = answers-reading Gone (λ f ns vs. getD vs 0 0) (λ (n : Noted). n .gone) (λ (w : History). w .gone) (record {
-  other = refl;
-  none = refl;
-  starts = λ f. refl;
-  notes = λ v c. refl;
-  kinds = λ f ns k. kind-tells f ns k .1;
-})
+gone-reading =
+    answers-reading Gone (λ f ns vs. getD vs 0 0) (λ (n : Noted). n .gone) (λ (w : History). w .gone) (record {
+      other = refl;
+      none = refl;
+      starts = λ f. refl;
+      notes = λ v c. refl;
+      kinds = λ f ns k. kind-tells f ns k .1;
+    })

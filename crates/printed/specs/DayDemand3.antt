@@ -124,7 +124,10 @@ module _ (f : Farm) (l : List ℕ) (k : Kind) (g : ℕ → List ℕ → Call) (e
 
   -- It prints its answer, where it issues no chunk.
   call-prints : does f call .notes .lines ≡ [] → linePrints f l ≡ answer (reply f call) ∷ []
-  call-prints n = ap printsOf call-answered ∙ ap (λ (xs : List Chunk). map chunk xs ++ answer (reply f call) ∷ []) (none-noted (λ (x : Noted). x .lines) f call n)
+  call-prints n =
+      ap printsOf call-answered
+      ∙ ap (λ (xs : List Chunk). map chunk xs ++ answer (reply f call) ∷ [])
+      (none-noted (λ (x : Noted). x .lines) f call n)
 
 -- the offer on a line
 abbrev offerOn : List ℕ → Offer
@@ -136,7 +139,9 @@ quoted-as f q j o h k e =
     let same : answered f q .farm ≡ f = ap (λ (x : Answered). x .farm) (call-answered f q kind.Quote _ refl o h) in
     record {
       told = offerSaid f (offerOn j);
-      first = call-prints f q kind.Quote _ refl o h refl ∙ ap (λ (ns : List ℕ). answer (asQuote (offerSaid f (offerIn (length ns) ns))) ∷ []) e;
+      first =
+          call-prints f q kind.Quote _ refl o h refl
+          ∙ ap (λ (ns : List ℕ). answer (asQuote (offerSaid f (offerIn (length ns) ns))) ∷ []) e;
       next = ap (λ (g : Farm). linePrints g j) same ∙ call-prints f j kind.Job _ refl o k refl;
     }
 
@@ -170,7 +175,8 @@ opens-allowance l h s e =
     ∙ List·getD-append al (replicate (32 - length al) 0) 0 (s - 1) (omega (arith, b .0, b .1))
 
 -- Before a farm is opened a line is answered what it asks for, an opening alone.
-unopened-asks : (l : List ℕ) (a : Asks) → lineAsks l ≡ a → answered unopened l .farm ≡ answeredWith unopened a (numbersOf l) .farm
+unopened-asks : (l : List ℕ) (a : Asks) → lineAsks l ≡ a
+    → answered unopened l .farm ≡ answeredWith unopened a (numbersOf l) .farm
 unfolding answered
 unopened-asks l a e = ap (λ (x : Asks). answeredWith unopened x (numbersOf l) .farm) e
 
@@ -189,7 +195,9 @@ stays-or-opens l = go (lineAsks l) refl
 
     number : lineAsks l ≡ anOpening → (m : ℕ) → said .number ≡ m → Stays l ⊎ Opens l
     number h zero e = inr (record { line = h; granted = e })
-    number h (suc m) e = inl (unopened-asks l anOpening h ∙ open-keeps (getD (numbersOf l) 0 0) (costsIn (numbersOf l)) (allowancesOn l) m e)
+    number h (suc m) e =
+        inl
+        (unopened-asks l anOpening h ∙ open-keeps (getD (numbersOf l) 0 0) (costsIn (numbersOf l)) (allowancesOn l) m e)
 
     go : (a : Asks) → lineAsks l ≡ a → Stays l ⊎ Opens l
     go anOpening h = number h (said .number) refl
@@ -248,7 +256,9 @@ stays-collect : {A : Type 0} (g : Print → List A) (noted : History → List A)
 stays-collect g noted x ls h = collect-prints g unopened ls ∙ stays-read (λ f ns. g) noted x ls h
 
 never-opens : (ls : List (List ℕ)) → All Stays ls → Day ls
-never-opens ls h = never h (stays-collect chunkIn _ chunks-reading ls h) (stays-read acceptedOn _ accepted-reading ls h) (stays-collect goneOn _ gone-reading ls h)
+never-opens ls h =
+    never h (stays-collect chunkIn _ chunks-reading ls h) (stays-read acceptedOn _ accepted-reading ls h)
+    (stays-collect goneOn _ gone-reading ls h)
 
 module _ (before : List (List ℕ)) (l : List ℕ) (h : All Stays before) (o : Opens l) where
   lines-farm : (after : List (List ℕ)) → farmAfter unopened (before ++ l ∷ after) ≡ run (opening (farmOn l)) (callsIn after) .farm

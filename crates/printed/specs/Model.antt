@@ -30,7 +30,9 @@ dayText bs = answers unopened (linesIn bs)
 
 -- each line with its answer
 abbrev pub answersOf : Farm → List (List ℕ) → List (List ℕ × List ℕ)
-answersOf f ls = answersTo (λ (g : Farm) (l : List ℕ). answered g l .farm) (λ (g : Farm) (l : List ℕ). answeredText (answered g l)) f ls
+answersOf f ls =
+    answersTo (λ (g : Farm) (l : List ℕ). answered g l .farm)
+    (λ (g : Farm) (l : List ℕ). answeredText (answered g l)) f ls
 
 -- such answers, one after the other
 unfoldable pub texts : List (List ℕ × List ℕ) → List ℕ

@@ -63,4 +63,6 @@ quote-farm f l e =
 
 -- Without them every other line is answered what it is answered among them.
 pub answers-without : (f : Farm) (ls : List (List ℕ)) → answersOf f (withoutQuotes ls) ≡ otherAnswers f ls
-answers-without f ls = answers-keep noQuote (λ (g : Farm) (l : List ℕ). answered g l .farm) (λ (g : Farm) (l : List ℕ). answeredText (answered g l)) quote-farm f ls
+answers-without f ls =
+    answers-keep noQuote (λ (g : Farm) (l : List ℕ). answered g l .farm)
+    (λ (g : Farm) (l : List ℕ). answeredText (answered g l)) quote-farm f ls
