@@ -8,18 +8,19 @@ use mathlib.Core.Bool.{Bool, true, false, cond, not, _&&_}
 use Prim.Native.Nat.{ℕ}
 use borrow.Author.Tests.{eqb-true}
 use lib.Dec.{leb, eqb}
-use lib.ListN.{length, getD}
+use lib.ListN.{length, getD, replicate}
 use Rattle.limits.specs.declared.FarmCosts.{FarmCosts}
 use Rattle.walk.specs.declared.Chunk.{Chunk}
+use Rattle.walk.specs.Model.{noChunk}
 use Rattle.planner.specs.declared.Farm.{Farm}
 use Rattle.answers.specs.declared.Offer.{Offer}
 use Rattle.planner.specs.Model.{between, costsWithin}
 use Rattle.planner.specs.Calls.{Word, Open, Yes, Clock, Shown, Account, Gone, Quote, No, Said, granted, refused, unopened, showsWithin, openSaid, offerSaid, quoteSaid}
-use Rattle.planner.specs.Call.{Call, offer, quote, withdraw, move, account, Accepted, acceptedFrom, Noted, nothing, does, reply, isGranted, noted}
+use Rattle.planner.specs.Call.{Call, Accepted, acceptedFrom, Noted, nothing, does, reply, isGranted, noted}
 use Rattle.reading.specs.declared.Kind.{Kind}
 use Rattle.reading.specs.declared.Kind.the-variants as kind
 use Rattle.reading.specs.Model.{lineKind, readable, numbersOf}
-use Rattle.lines.specs.Model.{answerText, chunkText, chunkTexts, costsIn, allowancesOf, offerIn, Asks, anOpening, aCall, noCall, asked, longest, lineAsks, Answered, answeredText, unread, openingWith, called, answeredAs, answeredWith, answered}
+use Rattle.lines.specs.Model.{answerText, chunkText, chunkTexts, costsIn, allowancesOf, offerIn, lent, Asks, anOpening, aCall, noCall, asked, longest, lineAsks, Answered, answeredText, unread, openingWith, called, answeredAs, answeredWith, answered}
 use Rattle.demands.specs.Demand1.{quote-given, withdraw-leaves, move-writes, account-says}
 use Rattle.demands.specs.Kept.{run-keeps}
 use Rattle.demands.specs.CallLists.{History, opening, note, run}
@@ -309,20 +310,57 @@ quote-number : (f : Farm) (o : Offer) → quoteSaid f o .number ≡ 0 → offerS
 unfolding quoteSaid
 quote-number f o e = e
 
--- the word under which a call is granted
-abbrev grantWord : Call → Word
-grantWord (offer o) = Yes
-grantWord (quote o) = Quote
-grantWord (withdraw n) = Gone
-grantWord (move t m) = Clock
-grantWord (account s) = Account
+-- the word under which a call on a line with these numbers is granted; what is told under `yes` and under `gone` where it
+-- is, is what it notes
+record TellsNoted (f : Farm) (ns : List ℕ) (c : Call) : Type 0 where
+  word : Word
+  grants : reply f c .number ≡ 0 → reply f c .word ≡ word
+  jobs : cond (sameWord word Yes) (acceptedFrom f (offerIn (length ns) ns) (getD (reply f c .values) 0 0) ∷ []) []
+      ≡ does f c .notes .jobs
+  gone : cond (sameWord word Gone) (getD (reply f c .values) 0 0 ∷ []) [] ≡ does f c .notes .gone
 
-grants-under : (f : Farm) (c : Call) → reply f c .number ≡ 0 → reply f c .word ≡ grantWord c
-grants-under f (offer o) e = ap (λ (s : Said). s .word) (quote-given f o e .0)
-grants-under f (quote o) e = ap (λ (s : Said). s .word) (quote-given f o (quote-number f o e) .1)
-grants-under f (withdraw n) e = ap (λ (s : Said). s .word) (withdraw-leaves f n e .0)
-grants-under f (move t m) e = ap (λ (s : Said). s .word) (move-writes f t m e .0)
-grants-under f (account s) e = ap (λ (s : Said). s .word) (account-says f s e)
+abbrev AsksNoted : Farm → List ℕ → Asks → Type 0
+AsksNoted f ns anOpening = Unit
+AsksNoted f ns (aCall g) = TellsNoted f ns (g (length ns) ns)
+AsksNoted f ns noCall = Unit
+
+under : {s t : Said} → s ≡ t → s .word ≡ t .word
+under e = ap (λ (s : Said). s .word) e
+
+-- So it is of the lines of each kind.
+kind-tells : (f : Farm) (ns : List ℕ) (k : Kind) → AsksNoted f ns (asked k)
+kind-tells f ns kind.Farm = tt
+kind-tells f ns kind.Job = record {
+  word = Yes;
+  grants = λ e. under (quote-given f _ e .0);
+  jobs = refl;
+  gone = refl;
+}
+kind-tells f ns kind.Clock = record {
+  word = Clock;
+  grants = λ e. under (move-writes f _ (replicate lent noChunk) e .0);
+  jobs = refl;
+  gone = refl;
+}
+kind-tells f ns kind.Account = record {
+  word = Account;
+  grants = λ e. under (account-says f _ e);
+  jobs = refl;
+  gone = refl;
+}
+kind-tells f ns kind.Withdraw = record {
+  word = Gone;
+  grants = λ e. under (withdraw-leaves f _ e .0);
+  jobs = refl;
+  gone = refl;
+}
+kind-tells f ns kind.Quote = record {
+  word = Quote;
+  grants = λ e. under (quote-given f _ (quote-number f _ e) .1);
+  jobs = refl;
+  gone = refl;
+}
+kind-tells f ns kind.Unreadable = tt
 
 -- An opening is granted under another word than these.
 open-tells : {A : Type 0} (w : Word) (g : List ℕ → A) → sameWord Open w ≡ false → (n : ℕ) (c : FarmCosts) (al : List ℕ)
@@ -347,66 +385,46 @@ unfolding collect
 told-after w g [] s = append-nil (toldUnder w g (answer s))
 told-after w g (x ∷ xs) s = told-after w g xs s
 
--- what is told under the word w of a granted call, by the numbers on its line, is what it notes
-abbrev TellsNoted : {A : Type 0} → Word → (Farm → List ℕ → List ℕ → A) → (Noted → List A) → Farm → List ℕ → Asks
-    → Type 0
-TellsNoted w g of f ns anOpening = Unit
-TellsNoted {A} w g of f ns (aCall h) =
-    cond {A = List A} (sameWord (grantWord (h (length ns) ns)) w)
-    (g f ns (reply f (h (length ns) ns) .values) ∷ []) [] ≡ of (does f (h (length ns) ns) .notes)
-TellsNoted w g of f ns noCall = Unit
-
 -- what answers under a word tell is what is noted of granted calls
-record ReadsAnswers {A : Type 0} (w : Word) (g : Farm → List ℕ → List ℕ → A) (of : Noted → List A) (kept : History → List A) : Type 0 where
+record ReadsAnswers {A : Type 0} (w : Word) (g : Farm → List ℕ → List ℕ → A) (of : Noted → List A) (kept : History → List A)
+    : Type 0 where
   other : sameWord Open w ≡ false
   none : of nothing ≡ []
   starts : (f : Farm) → kept (opening f) ≡ []
   notes : (v : History) (c : Call) → kept (note v c) ≡ kept v ++ of (noted (v .farm) c)
-  kinds : (f : Farm) (ns : List ℕ) (k : Kind) → TellsNoted w g of f ns (asked k)
+  calls : (f : Farm) (ns : List ℕ) (c : Call) (t : TellsNoted f ns c)
+      → cond {A = List A} (sameWord (t .word) w) (g f ns (reply f c .values) ∷ []) [] ≡ of (does f c .notes)
 
 answers-reading : {A : Type 0} (w : Word) (g : Farm → List ℕ → List ℕ → A) (of : Noted → List A) (kept : History → List A)
-    → ReadsAnswers w g of kept
-    → Reading (λ f ns. toldUnder w (g f ns)) kept
+    → ReadsAnswers w g of kept → Reading (λ f ns. toldUnder w (g f ns)) kept
 answers-reading {A} w g of kept x = record {
   unread = λ f ns. refl;
   opens = λ f ns n c al. open-tells w (g f ns) (x .other) n c al;
   starts = x .starts;
-  calls = λ v ns k. calls v ns (asked k) (x .kinds (v .farm) ns k);
+  calls = λ v ns k. calls v ns (asked k) (kind-tells (v .farm) ns k);
 }
   where
-    told : (f : Farm) (ns : List ℕ) (c : Call)
-        → cond {A = List A} (sameWord (grantWord c) w) (g f ns (reply f c .values) ∷ []) [] ≡ of (does f c .notes)
-        → toldUnder w (g f ns) (answer (reply f c)) ≡ of (noted f c)
-    told f ns c h = go (isGranted f c) refl
+    told : (f : Farm) (ns : List ℕ) (c : Call) → TellsNoted f ns c → toldUnder w (g f ns) (answer (reply f c)) ≡ of (noted f c)
+    told f ns c t = go (isGranted f c) refl
       where
+        under-word : Word → List A
+        under-word v = cond (sameWord v w) (g f ns (reply f c .values) ∷ []) []
+
         go : (b : Bool) → isGranted f c ≡ b
             → cond {A = List A} (b && sameWord (reply f c .word) w) (g f ns (reply f c .values) ∷ []) []
             ≡ of (cond b (does f c .notes) nothing)
-        go true e =
-            ap (λ (v : Word). cond {A = List A} (sameWord v w) (g f ns (reply f c .values) ∷ []) [])
-            (grants-under f c (eqb-true (reply f c .number) 0 e))
-            ∙ h
+        go true e = ap under-word (t .grants (eqb-true (reply f c .number) 0 e)) ∙ x .calls f ns c t
         go false e = sym (x .none)
 
-    calls : (v : History) (ns : List ℕ) (a : Asks) → TellsNoted w g of (v .farm) ns a
+    calls : (v : History) (ns : List ℕ) (a : Asks) → AsksNoted (v .farm) ns a
         → ReadsCall (λ f ns. toldUnder w (g f ns)) kept v ns a
-    calls v ns anOpening h = tt
-    calls v ns (aCall k) h =
+    calls v ns anOpening t = tt
+    calls v ns (aCall k) t =
         let c = k (length ns) ns in
-        ap (λ (l : List A). kept v ++ l) (told-after w (g (v .farm) ns) (noted (v .farm) c .lines) (reply (v .farm) c) ∙ told (v .farm) ns c h) ∙ sym (x .notes v c)
-    calls v ns noCall h = tt
-
--- What a granted call of each kind notes as accepted and as withdrawn is what it tells under `yes` and under `gone`.
-kind-tells : (f : Farm) (ns : List ℕ) (k : Kind)
-    → TellsNoted Yes (λ f ns vs. acceptedFrom f (offerIn (length ns) ns) (getD vs 0 0)) (λ (n : Noted). n .jobs) f ns (asked k)
-    × TellsNoted Gone (λ f ns vs. getD vs 0 0) (λ (n : Noted). n .gone) f ns (asked k)
-kind-tells f ns kind.Farm = (tt, tt)
-kind-tells f ns kind.Job = (refl, refl)
-kind-tells f ns kind.Clock = (refl, refl)
-kind-tells f ns kind.Account = (refl, refl)
-kind-tells f ns kind.Withdraw = (refl, refl)
-kind-tells f ns kind.Quote = (refl, refl)
-kind-tells f ns kind.Unreadable = (tt, tt)
+        ap (λ (l : List A). kept v ++ l)
+        (told-after w (g (v .farm) ns) (noted (v .farm) c .lines) (reply (v .farm) c) ∙ told (v .farm) ns c t)
+        ∙ sym (x .notes v c)
+    calls v ns noCall t = tt
 
 -- The jobs that are told `yes` are those that the calls accept.
 pub accepted-reading : Reading acceptedOn (λ (w : History). w .jobs)
@@ -417,7 +435,7 @@ accepted-reading =
       none = refl;
       starts = λ f. refl;
       notes = λ v c. refl;
-      kinds = λ f ns k. kind-tells f ns k .0;
+      calls = λ f ns c t. t .jobs;
     })
 
 -- The jobs that are told `gone` are those that the calls withdraw.
@@ -428,5 +446,5 @@ gone-reading =
       none = refl;
       starts = λ f. refl;
       notes = λ v c. refl;
-      kinds = λ f ns k. kind-tells f ns k .1;
+      calls = λ f ns c t. t .gone;
     })
