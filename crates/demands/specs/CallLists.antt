@@ -1,5 +1,6 @@
--- A list of calls after a granted opening, each given the farm that the one before it handed back, and what is noted of it. What each call answers, hands
--- back and notes is in the crate planner (Call). Everything here is a definition; nothing is assumed.
+-- A list of calls after a granted opening, each given the farm that the one before it handed back, and what is noted of
+-- it. What each call answers, hands back and notes is in the crate planner (Call). Everything here is a definition;
+-- nothing is assumed.
 use Prim.Native.Nat.{ℕ, zero, suc, _+_, _≤_, max}
 use mathlib.Core.Path.{_≡_}
 use mathlib.Core.List.{List, [], _∷_, _++_, map, List·Memᴰ}
@@ -175,11 +176,14 @@ pub data Lifecycle (x : Accepted) : Farm → List Call → Type 0 where
   -- it waits where the list ends
   waits : {f : Farm} → Waits x f → Lifecycle x f []
   -- it waits, and the call is no granted clock move that reaches the start it has then and no granted withdrawal of it, and issues no chunk of it
-  passes : {f : Farm} {c : Call} {cs : List Call} (h : Waits x f) → (Reaches f c (h .job .booking .start) → ⊥) → (Withdraws f c (x .number) → ⊥) → NoneOf (x .number) (noted f c .lines)
+  passes : {f : Farm} {c : Call} {cs : List Call} (h : Waits x f) → (Reaches f c (h .job .booking .start) → ⊥)
+      → (Withdraws f c (x .number) → ⊥) → NoneOf (x .number) (noted f c .lines)
       → Lifecycle x (handed f c) cs → Lifecycle x f (c ∷ cs)
   -- it waits, and the call is a granted clock move that reaches the start it has then: all its chunks are issued, each once, and none later
-  begins : {f : Farm} {c : Call} {cs : List Call} (h : Waits x f) → Reaches f c (h .job .booking .start) → linesFor (x .number) (noted f c .lines) ≡ linesOf (f .costs) (h .job)
+  begins : {f : Farm} {c : Call} {cs : List Call} (h : Waits x f) → Reaches f c (h .job .booking .start)
+      → linesFor (x .number) (noted f c .lines) ≡ linesOf (f .costs) (h .job)
       → IssuesNone (x .number) (handed f c) cs → Lifecycle x f (c ∷ cs)
   -- it waits, and the call is a granted withdrawal of it: no chunk of it is issued then or later
-  withdrawn : {f : Farm} {c : Call} {cs : List Call} (h : Waits x f) → Withdraws f c (x .number) → NoneOf (x .number) (noted f c .lines) → IssuesNone (x .number) (handed f c) cs
+  withdrawn : {f : Farm} {c : Call} {cs : List Call} (h : Waits x f) → Withdraws f c (x .number)
+      → NoneOf (x .number) (noted f c .lines) → IssuesNone (x .number) (handed f c) cs
       → Lifecycle x f (c ∷ cs)

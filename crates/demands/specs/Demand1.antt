@@ -1,7 +1,9 @@
 -- Demand 1, a theorem a sentence:
 --   "The timetable memory lent to a call holds, after it, the lines of the answer at its front and its former
 --    contents everywhere else;"                                                       move-writes, shown-writes
---   "after a refusal it is unchanged throughout, and so is the farm."                  open-keeps, call-keeps, move-keeps, shown-keeps, quote-keeps
+--   "after a refusal it is unchanged throughout, and so is the farm."                  open-keeps, call-keeps,
+-- move-keeps,
+--                                                                                      shown-keeps, quote-keeps
 --   "This is so for all arguments and lengths, and every call ends,"                   the functions' contracts, which have no `requires`
 --   "refused exactly where the papers name a refusal and granted otherwise."           open-asks, offer-asks, quote-asks, withdraw-asks, move-asks,
 --                                                                                      shown-asks, account-asks
@@ -32,7 +34,7 @@ use Rattle.planner.specs.declared.Farm.{Farm}
 use Rattle.answers.specs.declared.Offer.{Offer}
 use Rattle.planner.specs.Model.{greatest, between, costsWithin, linesOf, byStart, waitingOf, Sized}
 use Rattle.planner.specs.Passes.{passesOf}
-use Rattle.planner.specs.Calls.{hasNumber, Open, Yes, Clock, Shown, Account, Gone, Quote, Said, granted, refused, showsWithin, openSaid, openFarm, unopened, openedWith, accountSaid, heldBy, allowanceOf, computeOf, planned, accepts, withPlan, ofNumber, yesOf, offerAsked, offerSaid, offerFarm, asQuote, quoteSaid, withdrawnFarm, withdrawSaid, withdrawFarm}
+use Rattle.planner.specs.Calls.{hasNumber, Open, Yes, Clock, Shown, Account, Gone, Quote, Said, granted, refused, showsWithin, openSaid, openFarm, unopened, openedWith, accountSaid, heldBy, allowanceOf, computeOf, planned, accepts, ofNumber, yesOf, offerAsked, offerSaid, asQuote, quoteSaid, withdrawnFarm, withdrawSaid, withdrawFarm}
 use Rattle.planner.specs.Clock.{startsBy, begun, issued, movedFarm, moveAsked, moveSaid, moveFarm, moveMemory, shown, shownAsked, shownSaid, shownMemory}
 use Rattle.planner.specs.CallLaws.{refused-hands}
 use Rattle.demands.specs.CallLists.{Call, quote, reply, handed}
@@ -170,7 +172,8 @@ pub quote-keeps : (f : Farm) (o : Offer) → handed f (quote o) ≡ f
 quote-keeps f o = refl
 
 -- A refused clock move leaves the lent memory as it was.
-pub move-keeps : (f : Farm) (t : ℕ) (m : List Chunk) (k : ℕ) → moveSaid f t (length m) .number ≡ suc k → moveMemory f t m ≡ m
+pub move-keeps : (f : Farm) (t : ℕ) (m : List Chunk) (k : ℕ) → moveSaid f t (length m) .number ≡ suc k
+    → moveMemory f t m ≡ m
 unfolding moveSaid moveMemory
 move-keeps f t m k = go (eqb (moveAsked f t (length m)) 0)
   where
@@ -233,11 +236,13 @@ withdraw-leaves f n = go (passesOf f) (hasNumber n (waitingOf f))
 -- ---- An account says both columns
 
 -- A granted account answers the show, its held ticks and what is above its allowance.
-pub account-says : (f : Farm) (s : ℕ) → accountSaid f s .number ≡ 0 → accountSaid f s ≡ granted Account (s ∷ heldBy f s ∷ (heldBy f s - allowanceOf f s) ∷ [])
+pub account-says : (f : Farm) (s : ℕ) → accountSaid f s .number ≡ 0
+    → accountSaid f s ≡ granted Account (s ∷ heldBy f s ∷ (heldBy f s - allowanceOf f s) ∷ [])
 unfolding accountSaid
 account-says f s = go (passesOf f) (between 1 s (f .shows)) (s ∷ heldBy f s ∷ (heldBy f s - allowanceOf f s) ∷ [])
   where
-    go : (a b : Bool) (vs : List ℕ) → cond {A = Said} a (cond b (granted Account vs) (refused 4)) (refused 11) .number ≡ 0
+    go : (a b : Bool) (vs : List ℕ)
+        → cond {A = Said} a (cond b (granted Account vs) (refused 4)) (refused 11) .number ≡ 0
         → cond {A = Said} a (cond b (granted Account vs) (refused 4)) (refused 11) ≡ granted Account vs
     go true true vs e = refl
     go true false vs e = absurd (omega arith)

@@ -135,12 +135,14 @@ pub record Demand3 (f : Farm) (cs : List Call) (w : History) : Type 0 where
   -- They are issued, each once, all by the first granted clock move after its acceptance to reach the start it has at that move; or a granted withdrawal
   -- names it before, and none is issued.
   pub stories : (before : List Call) (c : Call) (after : List Call) → Split cs before c after
-      → All (λ (x : Accepted). Lifecycle x (handed (run (opening f) before .farm) c) after) (noted (run (opening f) before .farm) c .jobs)
+      → All (λ (x : Accepted). Lifecycle x (handed (run (opening f) before .farm) c) after)
+      (noted (run (opening f) before .farm) c .jobs)
   -- No others are ever issued.
   pub only : All (λ (y : Chunk). List·Memᴰ (y .job) (map (λ (x : Accepted). x .number) (w .jobs))) (w .lines)
   -- No later call alters an issued chunk: none issues a chunk of its job.
   pub unaltered : (before : List Call) (c : Call) (after : List Call) → Split cs before c after
-      → All (λ (y : Chunk). IssuesNone (y .job) (handed (run (opening f) before .farm) c) after) (noted (run (opening f) before .farm) c .lines)
+      → All (λ (y : Chunk). IssuesNone (y .job) (handed (run (opening f) before .farm) c) after)
+      (noted (run (opening f) before .farm) c .lines)
   -- No two chunks, issued or booked, share a tick of a node or of the link. The spans noted are those of the chunks issued.
   pub apart : Pairs Apart (w .spans ++ spansOfAll (w .farm .costs) (waitingOf (w .farm)))
   pub spans : map chunkOf (w .spans) ≡ w .lines
@@ -358,7 +360,8 @@ module _ (w : History) (i : Inv w) where
 new-among : (f : Farm) (c : Call) → Sized f → All (λ (x : Accepted). Among x (handed f c)) (noted f c .jobs)
 new-among f c z = go (outcome f c)
   where
-    all : (n : Noted) → noted f c ≡ n → All (λ (x : Accepted). Among x (handed f c)) (n .jobs) → All (λ (x : Accepted). Among x (handed f c)) (noted f c .jobs)
+    all : (n : Noted) → noted f c ≡ n → All (λ (x : Accepted). Among x (handed f c)) (n .jobs)
+        → All (λ (x : Accepted). Among x (handed f c)) (noted f c .jobs)
     all n q h = subst (λ (m : Noted). All (λ (x : Accepted). Among x (handed f c)) (m .jobs)) (sym q) h
 
     new-taken : (o : Offer) → Among (taken f o) (withPlan f (planned f o))
@@ -394,11 +397,14 @@ call-withdrawal f n z e =
       number = of-number-has n (waitingOf f) (k .0 .has);
       farm = k .1;
       order = now;
-      others = subst (λ (l : List Job). List·Permᴰ (waitingOf f) (ofNumber n (waitingOf f) ∷ l)) (sym now) (leaves-others f n z (k .0 .passes) (k .0 .has));
+      others =
+          subst (λ (l : List Job). List·Permᴰ (waitingOf f) (ofNumber n (waitingOf f) ∷ l)) (sym now)
+          (leaves-others f n z (k .0 .passes) (k .0 .has));
     }
 
 -- No call after it issues a chunk of a job that a call has issued.
-issued-issues-none : (w : History) (c : Call) (cs : List Call) → Inv w → All (λ (y : Chunk). IssuesNone (y .job) (handed (w .farm) c) cs) (noted (w .farm) c .lines)
+issued-issues-none : (w : History) (c : Call) (cs : List Call) → Inv w
+    → All (λ (y : Chunk). IssuesNone (y .job) (handed (w .farm) c) cs) (noted (w .farm) c .lines)
 issued-issues-none w c cs i = go (outcome (w .farm) c)
   where
     f : Farm

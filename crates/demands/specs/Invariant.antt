@@ -130,12 +130,16 @@ same-world a b y c d e x = rw (a, b, y, c, d, e, x)
 -- ---- What is noted
 
 -- A call notes what it is known to hand back and to note.
-noting-as : (w : History) (c : Call) {g : Farm} {n : Noted} → handed (w .farm) c ≡ g → noted (w .farm) c ≡ n → note w c ≡ noting w g n
+noting-as : (w : History) (c : Call) {g : Farm} {n : Noted} → handed (w .farm) c ≡ g → noted (w .farm) c ≡ n
+    → note w c ≡ noting w g n
 noting-as w c h q = rw (h, q)
 
 -- A call that is refused or only tells changes nothing.
 pub stays-note : (w : History) (c : Call) → handed (w .farm) c ≡ w .farm → noted (w .farm) c ≡ nothing → note w c ≡ w
-stays-note w c h q = noting-as w c h q ∙ same-world refl (append-nil (w .lines)) (append-nil (w .spans)) (append-nil (w .jobs)) (append-nil (w .gone)) refl refl
+stays-note w c h q =
+    noting-as w c h q
+    ∙ same-world refl (append-nil (w .lines)) (append-nil (w .spans)) (append-nil (w .jobs))
+    (append-nil (w .gone)) refl refl
 
 -- ---- An accepted offer
 
@@ -166,7 +170,8 @@ module _ (w : History) (o : Offer) where
   abbrev offered : History
   offered = historyOf (withPlan (w .farm) (planned (w .farm) o)) (w .lines) (w .spans) (w .jobs ++ taken (w .farm) o ∷ []) (w .gone) (planned (w .farm) o) (w .time)
 
-  takes-note : noting w (withPlan (w .farm) (planned (w .farm) o)) (accepting (taken (w .farm) o) (planned (w .farm) o)) ≡ offered
+  takes-note : noting w (withPlan (w .farm) (planned (w .farm) o)) (accepting (taken (w .farm) o) (planned (w .farm) o))
+      ≡ offered
   takes-note = same-world refl (append-nil (w .lines)) (append-nil (w .spans)) refl (append-nil (w .gone)) refl refl
 
   taken-numbers : map (λ (x : Accepted). x .number) (w .jobs) ≡ upTo (w .farm .used) → map (λ (x : Accepted). x .number) (w .jobs ++ taken (w .farm) o ∷ []) ≡ upTo (w .farm .used + 1)
@@ -320,7 +325,9 @@ module _ (w : History) (t : ℕ) where
 
   module _ (i : Inv w) where
     moves-note : noting w (movedFarm (w .farm) t) (moving t (issued (w .farm) t)) ≡ moved
-    moves-note = same-world refl refl (ap (λ (l : List Span). w .spans ++ l) (started-issued (w .farm) t (i .sized) (i .passes))) (append-nil (w .jobs)) (append-nil (w .gone)) refl refl
+    moves-note =
+        same-world refl refl (ap (λ (l : List Span). w .spans ++ l) (started-issued (w .farm) t (i .sized) (i .passes)))
+        (append-nil (w .jobs)) (append-nil (w .gone)) refl refl
 
     moved-whole : All (Whole (w .farm .costs) (w .farm .shows)) (i .past ++ begun (w .farm) t)
     moved-whole =

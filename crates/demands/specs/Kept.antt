@@ -48,7 +48,9 @@ call-at f c none = go (outcome f c)
 
     go : Outcome f c → All (At (f .costs)) (noted f c .jobs)
     go (stays h n) = noting-all nothing n tt
-    go (takes o e k h n) = noting-all (accepting (taken f o) (planned f o)) n (ap (λ (x : ComputeCost). costsFor (f .costs) (computeOr (f .costs .compute) x)) (none o e), tt)
+    go (takes o e k h n) =
+        noting-all (accepting (taken f o) (planned f o)) n
+        (ap (λ (x : ComputeCost). costsFor (f .costs) (computeOr (f .costs .compute) x)) (none o e), tt)
     go (leaves i k h n) = noting-all (withdrawing i) n tt
     go (moves t i k h n) = noting-all (moving t (issued f t)) n tt
 

@@ -211,7 +211,8 @@ module _ (n : ℕ) (f : Farm) (z : Sized f) (e : passesOf f ≡ true) where
   no-longer-stays : (c : Call) → NoLongerWaits n f → NoneOf n (noted f c .lines) × NoLongerWaits n (handed f c)
   no-longer-stays c g = go (outcome f c)
     where
-      both : {h : Farm} {k : Noted} → handed f c ≡ h → noted f c ≡ k → NoneOf n (k .lines) → NoLongerWaits n h → NoneOf n (noted f c .lines) × NoLongerWaits n (handed f c)
+      both : {h : Farm} {k : Noted} → handed f c ≡ h → noted f c ≡ k → NoneOf n (k .lines) → NoLongerWaits n h
+          → NoneOf n (noted f c .lines) × NoLongerWaits n (handed f c)
       both p q x y = (subst (λ (k : Noted). NoneOf n (k .lines)) (sym q) x, subst (NoLongerWaits n) (sym p) y)
 
       go : Outcome f c → NoneOf n (noted f c .lines) × NoLongerWaits n (handed f c)
@@ -275,7 +276,8 @@ module _ (x : Accepted) (w : History) (c : Call) (cs : List Call) (i : Inv w) wh
   Rest = Among x (handed (w .farm) c) → Lifecycle x (handed (w .farm) c) cs
 
   -- the job waits on over a call that moves no clock, withdraws no job and issues no chunk
-  lifecycle-on : {g : Farm} {k : Noted} → handed (w .farm) c ≡ g → noted (w .farm) c ≡ k → k .times ≡ [] → k .gone ≡ [] → k .lines ≡ [] → Among x (w .farm) → Among x g → Rest
+  lifecycle-on : {g : Farm} {k : Noted} → handed (w .farm) c ≡ g → noted (w .farm) c ≡ k → k .times ≡ [] → k .gone ≡ []
+      → k .lines ≡ [] → Among x (w .farm) → Among x g → Rest
       → Lifecycle x (w .farm) (c ∷ cs)
   lifecycle-on h q t g l m n rest =
       passes {c = c} (among-waits x (w .farm) (i .sized) (i .passes) m) (λ r. none-some (r .time) (ap (λ (y : Noted). y .times) q ∙ t) (r .moves))
@@ -332,7 +334,8 @@ module _ (x : Accepted) (w : History) (c : Call) (cs : List Call) (i : Inv w) wh
         (subst (λ (a : ℕ). NoLongerWaits a (handed f c)) same (subst (NoLongerWaits n) (sym h) (withdrawn-no-longer-waits f n (i .sized) (i .passes) (k .has)))))
 
     -- the job waits on over this withdrawal
-    lifecycle-stays : List·Memᴰ x (map acceptedOf (without n (waitingOf (w .farm)))) → Waits x (w .farm) → Rest → Lifecycle x (w .farm) (c ∷ cs)
+    lifecycle-stays : List·Memᴰ x (map acceptedOf (without n (waitingOf (w .farm)))) → Waits x (w .farm) → Rest
+        → Lifecycle x (w .farm) (c ∷ cs)
     lifecycle-stays m here rest =
         let f = w .farm in
         let other : x .number ≡ n → ⊥ =
@@ -355,4 +358,5 @@ module _ (x : Accepted) (w : History) (c : Call) (cs : List Call) (i : Inv w) wh
 -- Each job that waits is withdrawn, or issued by the first granted clock move to reach the start it has then, and never again.
 pub lifecycle : (x : Accepted) (w : History) (cs : List Call) → Inv w → Among x (w .farm) → Lifecycle x (w .farm) cs
 lifecycle x w [] i m = waits (among-waits x (w .farm) (i .sized) (i .passes) m)
-lifecycle x w (c ∷ cs) i m = lifecycle-step x w c cs i m (λ h. lifecycle x (note w c) cs (note-inv w c i) h) (outcome (w .farm) c)
+lifecycle x w (c ∷ cs) i m =
+    lifecycle-step x w c cs i m (λ h. lifecycle x (note w c) cs (note-inv w c i) h) (outcome (w .farm) c)

@@ -1,4 +1,5 @@
--- What a call does: it changes nothing, as it is refused or only tells; it takes a job; it lets one leave; or it moves the clock. Proofs over calls go by these.
+-- What a call does: it changes nothing, as it is refused or only tells; it takes a job; it lets one leave; or it moves
+-- the clock. Proofs over calls go by these.
 use mathlib.Core.Path.{_≡_, refl, ap, ap₂, sym, subst, _∙_}
 use mathlib.Core.List.{List, [], _∷_, _++_, map, List·Memᴰ, List·Memᴰ·head, List·Permᴰ·trans, List·Permᴰ·append-comm}
 use mathlib.Core.Bool.{Bool, true, false, false≢true}
@@ -49,7 +50,8 @@ pub data Outcome (f : Farm) (c : Call) : Type 0 where
   -- it is refused or only tells: the farm as it was, and nothing to note
   stays : handed f c ≡ f → noted f c ≡ nothing → Outcome f c
   -- it takes the job of an offer: the plan replaces the old one
-  takes : (o : Offer) → c ≡ offer o → Takes f o → handed f c ≡ withPlan f (planned f o) → noted f c ≡ accepting (taken f o) (planned f o) → Outcome f c
+  takes : (o : Offer) → c ≡ offer o → Takes f o → handed f c ≡ withPlan f (planned f o)
+      → noted f c ≡ accepting (taken f o) (planned f o) → Outcome f c
   -- it lets a waiting job leave
   leaves : (n : ℕ) → Leaves f n → handed f c ≡ withdrawnFarm f n → noted f c ≡ withdrawing n → Outcome f c
   -- it moves the clock, and issues the chunks of the jobs that start by its time
@@ -86,7 +88,8 @@ begun-found f t z e =
     all-map (λ j h. h .0) (begun f t) (keep-all (startsBy t) P (byStart (waitingOf f)) (perm-all P (by-start-perm (waitingOf f)) all))
 
 -- Lines that are issued have the spans of the jobs that begin.
-pub started-issued : (f : Farm) (t : ℕ) → Sized f → passesOf f ≡ true → map (withStart f) (issued f t) ≡ spansOfAll (f .costs) (begun f t)
+pub started-issued : (f : Farm) (t : ℕ) → Sized f → passesOf f ≡ true
+    → map (withStart f) (issued f t) ≡ spansOfAll (f .costs) (begun f t)
 started-issued f t z e = started-lines f (f .costs) (begun f t) (begun-found f t z e)
 
 -- ---- A granted offer
@@ -99,9 +102,11 @@ new-number f o =
     of-number-has (f .used + 1) (planned f o)
     (has-number (planned f o) (f .used + 1) (subst (List·Memᴰ (f .used + 1)) (sym (plan-numbers (termsOf f) (busyOf f) (queueOf f o))) (mem-image numberOfJob m)))
 
--- Its questions are answered yes and its walk books all; its plan replaces the old one, and its job and its plan are noted.
+-- Its questions are answered yes and its walk books all; its plan replaces the old one, and its job and its plan are
+-- noted.
 pub granted-offer : (f : Farm) (o : Offer) → isGranted f (offer o) ≡ true
-    → Takes f o × (handed f (offer o) ≡ withPlan f (planned f o)) × (noted f (offer o) ≡ accepting (taken f o) (planned f o))
+    → Takes f o × (handed f (offer o) ≡ withPlan f (planned f o))
+    × (noted f (offer o) ≡ accepting (taken f o) (planned f o))
 unfolding offerSaid offerFarm
 granted-offer f o e = go (eqb (offerAsked f o) 0) (accepts f o) refl refl
   where
@@ -112,7 +117,8 @@ granted-offer f o e = go (eqb (offerAsked f o) 0) (accepts f o) refl refl
     number p q = rw (p, q) (new-number f o)
 
     go : (a b : Bool) → eqb (offerAsked f o) 0 ≡ a → accepts f o ≡ b
-        → Takes f o × (handed f (offer o) ≡ withPlan f (planned f o)) × (noted f (offer o) ≡ accepting (taken f o) (planned f o))
+        → Takes f o × (handed f (offer o) ≡ withPlan f (planned f o))
+        × (noted f (offer o) ≡ accepting (taken f o) (planned f o))
     go true true p q = (
       record { granted = offer-granted f o (eqb-true (offerAsked f o) 0 p); books = q },
       rw (p, q),
@@ -124,7 +130,8 @@ granted-offer f o e = go (eqb (offerAsked f o) 0) (accepts f o) refl refl
 -- ---- A granted withdrawal
 
 -- A waiting job has the number; the farm is handed back without it, and the number is noted.
-pub granted-withdrawal : (f : Farm) (n : ℕ) → isGranted f (withdraw n) ≡ true → Leaves f n × (handed f (withdraw n) ≡ withdrawnFarm f n) × (noted f (withdraw n) ≡ withdrawing n)
+pub granted-withdrawal : (f : Farm) (n : ℕ) → isGranted f (withdraw n) ≡ true
+    → Leaves f n × (handed f (withdraw n) ≡ withdrawnFarm f n) × (noted f (withdraw n) ≡ withdrawing n)
 unfolding withdrawSaid withdrawFarm
 granted-withdrawal f n e = go (passesOf f) (hasNumber n (waitingOf f)) refl refl
   where
@@ -134,23 +141,28 @@ granted-withdrawal f n e = go (passesOf f) (hasNumber n (waitingOf f)) refl refl
     number : passesOf f ≡ true → hasNumber n (waitingOf f) ≡ true → getD (withdrawSaid f n .values) 0 0 ≡ n
     number p q = rw (p, q)
 
-    go : (a b : Bool) → passesOf f ≡ a → hasNumber n (waitingOf f) ≡ b → Leaves f n × (handed f (withdraw n) ≡ withdrawnFarm f n) × (noted f (withdraw n) ≡ withdrawing n)
+    go : (a b : Bool) → passesOf f ≡ a → hasNumber n (waitingOf f) ≡ b
+        → Leaves f n × (handed f (withdraw n) ≡ withdrawnFarm f n) × (noted f (withdraw n) ≡ withdrawing n)
     go true true p q = (record { passes = p; has = q }, rw (p, q), granted-notes f (withdraw n) e ∙ ap withdrawing (number p q))
     go true false p q = absurd (no (rw (p, q)))
     go false b p q = absurd (no (rw p))
 
 -- ---- A granted clock move
 
--- Its questions are answered yes; the moved farm is handed back, and its time and the lines of the jobs that begin are noted.
+-- Its questions are answered yes; the moved farm is handed back, and its time and the lines of the jobs that begin are
+-- noted.
 pub granted-move : (f : Farm) (t : ℕ) (m : List Chunk) → isGranted f (move t m) ≡ true
     → MoveGranted f t (length m) × (handed f (move t m) ≡ movedFarm f t) × (noted f (move t m) ≡ moving t (issued f t))
 unfolding moveSaid moveFarm moveMemory
 granted-move f t m e = go (eqb (moveAsked f t (length m)) 0) refl
   where
-    lines : eqb (moveAsked f t (length m)) 0 ≡ true → take (getD (moveSaid f t (length m) .values) 1 0) (moveMemory f t m) ≡ issued f t
+    lines : eqb (moveAsked f t (length m)) 0 ≡ true
+        → take (getD (moveSaid f t (length m) .values) 1 0) (moveMemory f t m) ≡ issued f t
     lines p = rw p (take-at (issued f t) (drop (length (issued f t)) m) (length (issued f t)) refl)
 
-    go : (a : Bool) → eqb (moveAsked f t (length m)) 0 ≡ a → MoveGranted f t (length m) × (handed f (move t m) ≡ movedFarm f t) × (noted f (move t m) ≡ moving t (issued f t))
+    go : (a : Bool) → eqb (moveAsked f t (length m)) 0 ≡ a
+        → MoveGranted f t (length m) × (handed f (move t m) ≡ movedFarm f t)
+        × (noted f (move t m) ≡ moving t (issued f t))
     go true p = (move-granted f t (length m) (eqb-true (moveAsked f t (length m)) 0 p), rw p, granted-notes f (move t m) e ∙ ap (moving t) (lines p))
     go false p = absurd (let n : isGranted f (move t m) ≡ false = rw (p, p) in false≢true (sym n ∙ e))
 

@@ -24,7 +24,8 @@ unfolding run keep
 run-without w [] = refl
 run-without w (c ∷ cs) = go (noQuote c) refl (run-without (note w c) cs)
   where
-    go : (b : Bool) → noQuote c ≡ b → run (note w c) (withoutQuotes cs) ≡ run (note w c) cs → run w (cond b (c ∷ withoutQuotes cs) (withoutQuotes cs)) ≡ run (note w c) cs
+    go : (b : Bool) → noQuote c ≡ b → run (note w c) (withoutQuotes cs) ≡ run (note w c) cs
+        → run w (cond b (c ∷ withoutQuotes cs) (withoutQuotes cs)) ≡ run (note w c) cs
     go true e r = r
     go false e r = let s = quote-stays (w .farm) c e in ap (λ (v : History). run v (withoutQuotes cs)) (sym (stays-note w c (s .0) (s .1))) ∙ r
 

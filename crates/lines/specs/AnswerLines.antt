@@ -1,25 +1,24 @@
 -- The line of an answer, as the crate printing takes it, and the chunk lines of a clock move, for src/answer.rt.
 use mathlib.Core.Path.{_≡_, refl, ap, sym, _∙_}
 use mathlib.Core.List.{List, [], _∷_, _++_, map, append-nil, append-assoc}
-use mathlib.Core.Bool.{cond}
-use Prim.Native.Nat.{ℕ, _+_, _*_, _≤_, _<_}
+use mathlib.Core.Bool.{Bool, true, false, cond}
+use Prim.Native.Nat.{ℕ, _+_, _-_, _*_, _≤_, _<_}
 use native.Mathlib.Numerals.{add-one}
 use native.Mathlib.Omega.{arith}
 use lib.Dec.{eqb}
-use lib.ListN.{length, getD, take, length-map}
-use lib.Seq.{take-at, take-suc}
+use lib.ListN.{length, getD, take, replicate, length-map}
+use lib.Seq.{take-all, take-at, take-suc}
 use Rattle.walk.specs.declared.Chunk.{Chunk}
 use Rattle.timetable.specs.Model.{rowOf}
 use Rattle.answers.specs.declared.Answer.{Answer}
 use Rattle.answers.specs.declared.Answer.the-variants as answer
 use Rattle.planner.specs.Calls.{Said, said}
-use Rattle.answers.specs.Steps.{no-number}
 use Rattle.text.specs.Model.{padded}
 use Rattle.text.specs.Writing.{WroteWithin, wrote-same, wrote-join}
 use Rattle.printing.specs.declared.Line.{Line}
 use Rattle.printing.specs.declared.Word.the-variants as word
 use Rattle.printing.specs.Model.{lineText}
-use Rattle.lines.specs.Model.{printedAs, answerText, chunkText, chunkTexts}
+use Rattle.lines.specs.Model.{refusal, printedAs, answerText, chunkText, chunkTexts}
 
 -- ---- An answer's line
 
@@ -33,27 +32,47 @@ lineWith s =
 abbrev pub textOf : Line → List ℕ
 textOf l = lineText (l .word) (take (l .count) (l .numbers))
 
+-- An answer has at most eight values.
+few-values : (a : Answer) → length (said a .values) ≤ 8
+few-values (answer.Open n s) = omega arith
+few-values (answer.Yes j s t k) = omega arith
+few-values (answer.Clock t n) = omega arith
+few-values (answer.Shown n) = omega arith
+few-values (answer.Account s h c) = omega arith
+few-values (answer.Gone j) = omega arith
+few-values (answer.Quote j s t k) = omega arith
+few-values (answer.No q) = omega arith
+
+kept-values : (vs : List ℕ) → length vs ≤ 8 → take (length vs) (padded 8 vs) ≡ vs
+kept-values vs h =
+    ap (λ (l : List ℕ). take (length vs) (l ++ replicate (8 - length vs) 0)) (take-all 8 vs h)
+    ∙ take-at vs (replicate (8 - length vs) 0) (length vs) refl
+
+-- The text of its line is that of the answer,
 pub line-text : (a : Answer) → textOf (lineWith (said a)) ≡ answerText (said a)
 unfolding lineWith answerText
-line-text (answer.Open n s) = refl
-line-text (answer.Yes j s t k) = refl
-line-text (answer.Clock t n) = refl
-line-text (answer.Shown n) = refl
-line-text (answer.Account s h c) = refl
-line-text (answer.Gone j) = refl
-line-text (answer.Quote j s t k) = refl
-line-text (answer.No q) = rw (no-number q)
+line-text a = go (eqb (said a .number) 0)
+  where
+    go : (b : Bool)
+        → textOf (cond b
+        (record { word = printedAs (said a .word); count = length (said a .values); numbers = padded 8 (said a .values) })
+        (record { word = word.No; count = 1; numbers = padded 8 (said a .number ∷ []) }))
+        ≡ cond b (lineText (printedAs (said a .word)) (said a .values)) (refusal (said a .number))
+    go true = ap (lineText (printedAs (said a .word))) (kept-values (said a .values) (few-values a))
+    go false = refl
 
+-- and it has at most eight numbers.
 pub line-count : (a : Answer) → lineWith (said a) .count ≤ 8
 unfolding lineWith
-line-count (answer.Open n s) = omega arith
-line-count (answer.Yes j s t k) = omega arith
-line-count (answer.Clock t n) = omega arith
-line-count (answer.Shown n) = omega arith
-line-count (answer.Account s h c) = omega arith
-line-count (answer.Gone j) = omega arith
-line-count (answer.Quote j s t k) = omega arith
-line-count (answer.No q) = rw (no-number q) (omega arith)
+line-count a = go (eqb (said a .number) 0)
+  where
+    go : (b : Bool)
+        → cond {A = Line} b
+        (record { word = printedAs (said a .word); count = length (said a .values); numbers = padded 8 (said a .values) })
+        (record { word = word.No; count = 1; numbers = padded 8 (said a .number ∷ []) }) .count
+        ≤ 8
+    go true = few-values a
+    go false = omega arith
 
 -- ---- The chunk lines of a clock move
 

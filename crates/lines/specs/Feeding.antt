@@ -52,7 +52,8 @@ feed-rest f p (b ∷ xs) e = go (eqb b newline) e (feed-rest f (kept p b) xs)
   where
     go : (t : Bool) → cond t 0 (suc (before (this newline) xs)) ≡ suc (length xs)
         → (before (this newline) xs ≡ length xs → feed f (kept p b) xs ≡ record { farm = f; pending = keptAll (kept p b) xs; text = [] })
-        → cond t (behind (answeredText (ended f p)) (feed (ended f p .farm) (part []) xs)) (feed f (kept p b) xs) ≡ record { farm = f; pending = keptAll (kept p b) xs; text = [] }
+        → cond t (behind (answeredText (ended f p)) (feed (ended f p .farm) (part []) xs)) (feed f (kept p b) xs)
+        ≡ record { farm = f; pending = keptAll (kept p b) xs; text = [] }
     go true e r = absurd (omega arith)
     go false e r = r (omega arith)
 

@@ -8,11 +8,15 @@ use Rattle.reading.specs.declared.Kind.the-variants as kind
 use Rattle.lines.specs.Model.{asked, answeredAs, answeredWith}
 
 -- It is answered as the line that gives the farm's.
-pub absent-line : (f : Farm) (s z d : ℕ) → answeredWith f (asked kind.Job) (s ∷ z ∷ d ∷ []) ≡ answeredWith f (asked kind.Job) (s ∷ z ∷ d ∷ f .costs .compute ∷ [])
+pub absent-line : (f : Farm) (s z d : ℕ)
+    → answeredWith f (asked kind.Job) (s ∷ z ∷ d ∷ [])
+    ≡ answeredWith f (asked kind.Job) (s ∷ z ∷ d ∷ f .costs .compute ∷ [])
 unfolding answeredAs offerAsked offerSaid offerFarm
 absent-line f s z d = refl
 
 -- So is a quote.
-pub absent-quote : (f : Farm) (s z d : ℕ) → answeredWith f (asked kind.Quote) (s ∷ z ∷ d ∷ []) ≡ answeredWith f (asked kind.Quote) (s ∷ z ∷ d ∷ f .costs .compute ∷ [])
+pub absent-quote : (f : Farm) (s z d : ℕ)
+    → answeredWith f (asked kind.Quote) (s ∷ z ∷ d ∷ [])
+    ≡ answeredWith f (asked kind.Quote) (s ∷ z ∷ d ∷ f .costs .compute ∷ [])
 unfolding answeredAs quoteSaid offerAsked offerSaid
 absent-quote f s z d = refl

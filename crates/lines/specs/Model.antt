@@ -178,7 +178,9 @@ behind t x = record { farm = x .farm; pending = x .pending; text = t ++ x .text 
 -- a newline ends a line
 unfoldable pub feed : Farm → Pending → List ℕ → Fed
 feed f p [] = record { farm = f; pending = p; text = [] }
-feed f p (b ∷ bs) = cond (eqb b newline) (behind (answeredText (ended f p)) (feed (ended f p .farm) (part []) bs)) (feed f (kept p b) bs)
+feed f p (b ∷ bs) =
+    cond (eqb b newline) (behind (answeredText (ended f p)) (feed (ended f p .farm) (part []) bs))
+    (feed f (kept p b) bs)
 
 -- the end of the input: what is pending is a line if it is not empty
 abbrev pub atEnd : Farm → Pending → List ℕ

@@ -106,7 +106,8 @@ row-allowances : (k : Kind) (ns : List ℕ) → allowancesIn (rowWith k ns) ≡ 
 row-allowances k ns =
     sym (drop-take 6 (min 39 (length ns)) (padded 39 ns)) ∙ ap (drop 6) (kept-front 39 ns) ∙ drop-take 6 39 ns
 
-farm-same : (k : Kind) (ns : List ℕ) → openingWith (padded 39 ns) (allowancesIn (rowWith k ns)) ≡ openingWith ns (allowancesOf ns)
+farm-same : (k : Kind) (ns : List ℕ)
+    → openingWith (padded 39 ns) (allowancesIn (rowWith k ns)) ≡ openingWith ns (allowancesOf ns)
 farm-same k ns =
     rw (row-allowances k ns, kept-at 39 ns 0 (omega arith), kept-at 39 ns 1 (omega arith), kept-at 39 ns 2 (omega arith), kept-at 39 ns 3 (omega arith), kept-at 39 ns 4 (omega arith), kept-at 39 ns 5 (omega arith), open-33, open-farm-33)
 
@@ -128,9 +129,12 @@ same-call kind.Unreadable ns = tt
 
 pub row-answered : (f : Farm) (k : Kind) (ns : List ℕ) → byRow f (rowWith k ns) ≡ answeredWith f (asked k) ns
 unfolding answeredAs
-row-answered f k ns = ap (λ (x : Answered). cond (inTurn (asked k) (f .opened)) x (unread f)) (go (asked k) (same-call k ns))
+row-answered f k ns =
+    ap (λ (x : Answered). cond (inTurn (asked k) (f .opened)) x (unread f)) (go (asked k) (same-call k ns))
   where
-    go : (a : Asks) → SameCall a ns → answerTo f a (min 39 (length ns)) (padded 39 ns) (allowancesIn (rowWith k ns)) ≡ answerTo f a (length ns) ns (allowancesOf ns)
+    go : (a : Asks) → SameCall a ns
+        → answerTo f a (min 39 (length ns)) (padded 39 ns) (allowancesIn (rowWith k ns))
+        ≡ answerTo f a (length ns) ns (allowancesOf ns)
     go anOpening e = farm-same k ns
     go (aCall g) e = ap (called f) e
     go noCall e = refl
@@ -144,7 +148,9 @@ pub line-row : (f : Farm) (l : List ℕ) → length l ≤ longest → answered f
 unfolding answered lineAsks rowOf answeredAs
 line-row f l h = rw (le-leb (length l) longest h) (go (readable l))
   where
-    go : (t : Bool) → answeredWith f (cond t (asked (lineKind l)) noCall) (numbersOf l) ≡ byRow f (cond t (rowWith (lineKind l) (numbersOf l)) (rowWith kind.Unreadable []))
+    go : (t : Bool)
+        → answeredWith f (cond t (asked (lineKind l)) noCall) (numbersOf l)
+        ≡ byRow f (cond t (rowWith (lineKind l) (numbersOf l)) (rowWith kind.Unreadable []))
     go true = sym (row-answered f (lineKind l) (numbersOf l))
     go false = refl
 
@@ -173,7 +179,8 @@ row-farm (part l) e = go (readable l) refl e
 
 module _ (f : Farm) (r : Row) where
   -- It is answered what it asks for.
-  pub row-turn : inTurn (asked (r .kind)) (f .opened) ≡ true → byRow f r ≡ answerTo f (asked (r .kind)) (r .count) (r .numbers) (allowancesIn r)
+  pub row-turn : inTurn (asked (r .kind)) (f .opened) ≡ true
+      → byRow f r ≡ answerTo f (asked (r .kind)) (r .count) (r .numbers) (allowancesIn r)
   unfolding answeredAs
   row-turn e = rw e
 
@@ -190,17 +197,25 @@ unfolding chunkTexts answerText
 unread-text f = refl
 
 -- An opening prints what it is told,
-pub opening-text : (ns al : List ℕ) {s : Said} → s ≡ openingWith ns al .said → answerText s ≡ answeredText (openingWith ns al)
+pub opening-text : (ns al : List ℕ) {s : Said} → s ≡ openingWith ns al .said
+    → answerText s ≡ answeredText (openingWith ns al)
 unfolding chunkTexts
 opening-text ns al e = ap answerText e
 
 -- and so does a call that issues no chunk.
-pub call-text : (f : Farm) (c : Call) {s : Said} → does f c .notes .lines ≡ [] → s ≡ reply f c → answerText s ≡ answeredText (called f c)
+pub call-text : (f : Farm) (c : Call) {s : Said} → does f c .notes .lines ≡ [] → s ≡ reply f c
+    → answerText s ≡ answeredText (called f c)
 unfolding chunkTexts
-call-text f c none e = ap answerText e ∙ sym (ap (λ (xs : List Chunk). chunkTexts xs ++ answerText (reply f c)) (none-noted (λ (n : Noted). n .lines) f c none))
+call-text f c none e =
+    ap answerText e
+    ∙ sym
+    (ap (λ (xs : List Chunk). chunkTexts xs ++ answerText (reply f c)) (none-noted (λ (n : Noted). n .lines) f c none))
 
--- A clock move that is lent the program's records hands back what a move lent as many does, and issues the lines that it writes.
-pub move-called : (f : Farm) (t : ℕ) → called f (move t (replicate lent noChunk)) ≡ record { farm = moveFarm f t lent; chunks = moveLines f t lent; said = moveSaid f t lent }
+-- A clock move that is lent the program's records hands back what a move lent as many does, and issues the lines that
+-- it writes.
+pub move-called : (f : Farm) (t : ℕ)
+    → called f (move t (replicate lent noChunk))
+    ≡ record { farm = moveFarm f t lent; chunks = moveLines f t lent; said = moveSaid f t lent }
 move-called f t =
     let m : List Chunk = replicate lent noChunk in
     ap (λ (xs : List Chunk). record { farm = moveFarm f t (length m); chunks = xs; said = moveSaid f t (length m) }) (move-issues f t m)

@@ -1,5 +1,5 @@
--- A call on an opened farm, as a value: which one it is, and in one clause each what it answers, the farm that it hands back and what is noted of it.
--- Everything here is a definition; nothing is assumed.
+-- A call on an opened farm, as a value: which one it is, and in one clause each what it answers, the farm that it hands
+-- back and what is noted of it. Everything here is a definition; nothing is assumed.
 use Prim.Native.Nat.{ℕ}
 use mathlib.Core.List.{List, [], _∷_}
 use mathlib.Core.Bool.{Bool, cond}
@@ -12,7 +12,8 @@ use Rattle.planner.specs.declared.Farm.{Farm}
 use Rattle.planner.specs.Calls.{Said, computeOf, planned, offerSaid, offerFarm, quoteSaid, withdrawSaid, withdrawFarm, accountSaid}
 use Rattle.planner.specs.Clock.{moveSaid, moveFarm, moveMemory}
 
--- an offer; a quote of one; the withdrawal of a job by its number; a move to a time, lent a timetable of any length and contents; or the account of a show
+-- an offer; a quote of one; the withdrawal of a job by its number; a move to a time, lent a timetable of any length and
+-- contents; or the account of a show
 pub data Call : Type 0 where
   offer : Offer → Call
   quote : Offer → Call
@@ -32,9 +33,16 @@ pub record Accepted : Type 0 where
 
 -- the job of an offer, with this number and the compute cost that is given or the farm's
 abbrev pub acceptedFrom : Farm → Offer → ℕ → Accepted
-acceptedFrom f o n = record { number = n; show = o .show; size = o .size; compute = computeOf f o; deadline = o .deadline }
+acceptedFrom f o n = record {
+  number = n;
+  show = o .show;
+  size = o .size;
+  compute = computeOf f o;
+  deadline = o .deadline;
+}
 
--- the chunks issued, the jobs accepted, the numbers of the jobs withdrawn, the plans that replaced the old one, and the times that the clock was moved to
+-- the chunks issued, the jobs accepted, the numbers of the jobs withdrawn, the plans that replaced the old one, and the
+-- times that the clock was moved to
 pub record Noted : Type 0 where
   pub lines : List Chunk
   pub jobs : List Accepted
@@ -69,11 +77,20 @@ pub record Does : Type 0 where
 abbrev pub onlySays : Farm → Said → Does
 onlySays f s = record { said = s; farm = f; notes = nothing }
 
--- The numbers noted are those that it answers, and the chunks of a move as many records as it answers, from the front of the memory that it hands back.
+-- The numbers noted are those that it answers, and the chunks of a move as many records as it answers, from the front
+-- of the memory that it hands back.
 abbrev pub does : Farm → Call → Does
-does f (offer o) = record { said = offerSaid f o; farm = offerFarm f o; notes = accepting (acceptedFrom f o (getD (offerSaid f o .values) 0 0)) (planned f o) }
+does f (offer o) = record {
+  said = offerSaid f o;
+  farm = offerFarm f o;
+  notes = accepting (acceptedFrom f o (getD (offerSaid f o .values) 0 0)) (planned f o);
+}
 does f (quote o) = onlySays f (quoteSaid f o)
-does f (withdraw n) = record { said = withdrawSaid f n; farm = withdrawFarm f n; notes = withdrawing (getD (withdrawSaid f n .values) 0 0) }
+does f (withdraw n) = record {
+  said = withdrawSaid f n;
+  farm = withdrawFarm f n;
+  notes = withdrawing (getD (withdrawSaid f n .values) 0 0);
+}
 does f (move t m) = record {
   said = moveSaid f t (length m);
   farm = moveFarm f t (length m);

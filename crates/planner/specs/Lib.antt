@@ -1,4 +1,5 @@
--- What a reader must believe is Model, Passes, Calls, Clock and Call; the others are what the functions need and promise each other.
+-- What a reader must believe is Model, Passes, Calls, Clock and Call; the others are what the functions need and
+-- promise each other.
 pub mod Model
 pub mod Passes
 pub mod Changes

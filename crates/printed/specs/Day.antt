@@ -11,7 +11,7 @@ use Rattle.planner.specs.declared.Farm.{Farm}
 use Rattle.planner.specs.Calls.{unopened}
 use Rattle.text.specs.Model.{newline}
 use Rattle.reading.specs.Model.{onFirst}
-use Rattle.lines.specs.Model.{Answered, answered, Pending, part, kept, ended, Fed, behind, feed, atEnd, longest}
+use Rattle.lines.specs.Model.{lineAsks, Answered, answeredText, answeredAs, answered, Pending, part, kept, ended, Fed, behind, feed, atEnd, longest}
 use Rattle.lines.specs.Feeding.{feed-append, keptAll}
 use Rattle.lines.specs.PendingLine.{kept-fits, kept-over}
 use Rattle.printed.specs.Model.{linesIn, answers, dayText}
@@ -46,7 +46,7 @@ kept-snoc p (c ∷ q) b = kept-snoc (kept p c) q b
 
 -- What is kept of a line is answered as the line is.
 pub ended-kept : (f : Farm) (q : List ℕ) → ended f (keptAll (part []) q) ≡ answered f q
-unfolding answered
+unfolding answered lineAsks answeredAs
 ended-kept f q = go (leb (length q) longest) refl
   where
     go : (t : Bool) → leb (length q) longest ≡ t → ended f (keptAll (part []) q) ≡ answered f q
@@ -54,12 +54,13 @@ ended-kept f q = go (leb (length q) longest) refl
     go false e = ap (ended f) (kept-over [] q (omega arith) (omega (arith, leb-false (length q) longest e))) ∙ rw e
 
 at-end-kept : (f : Farm) (q : List ℕ) → atEnd f (keptAll (part []) q) ≡ answers f (prefixed q [])
-unfolding answers answered prefixed keptAll
+unfolding answers answered lineAsks answeredAs prefixed keptAll
 at-end-kept f [] = refl
 at-end-kept f (b ∷ q) =
-    go (leb (length (b ∷ q)) longest) refl ∙ sym (append-nil (answered f (b ∷ q) .text)) ∙ ap (answers f) (sym (prefixed-nil b q))
+    go (leb (length (b ∷ q)) longest) refl ∙ sym (append-nil (answeredText (answered f (b ∷ q)))) ∙ ap (answers f) (sym (prefixed-nil b q))
   where
-    go : (t : Bool) → leb (length (b ∷ q)) longest ≡ t → atEnd f (keptAll (part []) (b ∷ q)) ≡ answered f (b ∷ q) .text
+    go : (t : Bool) → leb (length (b ∷ q)) longest ≡ t
+        → atEnd f (keptAll (part []) (b ∷ q)) ≡ answeredText (answered f (b ∷ q))
     go true e = ap (atEnd f) (kept-fits [] (b ∷ q) (omega (arith, leb-true (length (b ∷ q)) longest e)))
     go false e = ap (atEnd f) (kept-over [] (b ∷ q) (omega arith) (omega (arith, leb-false (length (b ∷ q)) longest e))) ∙ rw e
 
@@ -70,12 +71,13 @@ abbrev pub whole : Fed → List ℕ
 whole x = x .text ++ atEnd (x .farm) (x .pending)
 
 day-ends : (f : Farm) (q bs : List ℕ) (p : Pending) → ended f p ≡ answered f q → ((g : Farm) → whole (feed g (part []) bs) ≡ answers g (linesIn bs))
-    → whole (behind (ended f p .text) (feed (ended f p .farm) (part []) bs)) ≡ answers f (prefixed q ([] ∷ linesIn bs))
+    → whole (behind (answeredText (ended f p)) (feed (ended f p .farm) (part []) bs))
+    ≡ answers f (prefixed q ([] ∷ linesIn bs))
 unfolding answers
 day-ends f q bs p e h =
-    append-assoc (ended f p .text) (feed (ended f p .farm) (part []) bs .text) _
-    ∙ ap (λ (l : List ℕ). ended f p .text ++ l) (h (ended f p .farm))
-    ∙ ap (λ (x : Answered). x .text ++ answers (x .farm) (linesIn bs)) e
+    append-assoc (answeredText (ended f p)) (feed (ended f p .farm) (part []) bs .text) _
+    ∙ ap (λ (l : List ℕ). answeredText (ended f p) ++ l) (h (ended f p .farm))
+    ∙ ap (λ (x : Answered). answeredText x ++ answers (x .farm) (linesIn bs)) e
     ∙ ap (answers f) (sym (prefixed-cons q [] (linesIn bs) ∙ ap (λ (l : List ℕ). l ∷ linesIn bs) (append-nil q)))
 
 day-from : (f : Farm) (q bs : List ℕ) → whole (feed f (keptAll (part []) q) bs) ≡ answers f (prefixed q (linesIn bs))
@@ -85,7 +87,7 @@ day-from f q (b ∷ bs) = go (eqb b newline) (λ (g : Farm). day-from g [] bs) (
   where
     go : (t : Bool) → ((g : Farm) → whole (feed g (part []) bs) ≡ answers g (linesIn bs))
         → whole (feed f (keptAll (part []) (q ++ b ∷ [])) bs) ≡ answers f (prefixed (q ++ b ∷ []) (linesIn bs))
-        → whole (cond t (behind (ended f (keptAll (part []) q) .text) (feed (ended f (keptAll (part []) q) .farm) (part []) bs)) (feed f (kept (keptAll (part []) q) b) bs))
+        → whole (cond t (behind (answeredText (ended f (keptAll (part []) q))) (feed (ended f (keptAll (part []) q) .farm) (part []) bs)) (feed f (kept (keptAll (part []) q) b) bs))
         ≡ answers f (prefixed q (cond t ([] ∷ linesIn bs) (onFirst b (linesIn bs))))
     go true h k = day-ends f q bs (keptAll (part []) q) (ended-kept f q) h
     go false h k = ap (λ (p : Pending). whole (feed f p bs)) (kept-snoc (part []) q b) ∙ k ∙ ap (answers f) (sym (prefixed-on q b (linesIn bs)))

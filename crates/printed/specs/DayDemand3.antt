@@ -4,8 +4,8 @@
 -- the allowance on the `farm` line; and a `job` line behind a `quote` line with the same numbers is told what was quoted. Leaving the `quote` lines out of a day leaves the
 -- answer of every other line as it was. The definitions come first; `day-demand3` and `printed-day` at the end are the theorems.
 use mathlib.Core.Path.{_≡_, refl, ap, sym, subst, _∙_}
-use mathlib.Core.List.{List, [], _∷_, _++_, append-assoc}
-use mathlib.Core.Bool.{Bool, true, false, cond, _&&_, false≢true}
+use mathlib.Core.List.{List, [], _∷_, _++_, map, append-assoc}
+use mathlib.Core.Bool.{Bool, true, false, cond, _&&_}
 use mathlib.Core.Logic.{_⊎_, inl, inr, ⊎-elim}
 use Prim.Native.Nat.{ℕ, zero, suc, _-_}
 use native.Mathlib.Omega.{arith}
@@ -16,19 +16,22 @@ use Rattle.limits.specs.declared.FarmCosts.{FarmCosts}
 use Rattle.limits.specs.Says.{between-is}
 use Rattle.walk.specs.declared.Chunk.{Chunk}
 use Rattle.planner.specs.declared.Farm.{Farm}
+use Rattle.answers.specs.declared.Offer.{Offer}
 use Rattle.planner.specs.Model.{between, Between, costsWithin}
 use Rattle.planner.specs.Calls.{Said, Open, Account, granted, refused, showsWithin, openSaid, openFarm, openedWith, unopened, accountSaid, heldBy, allowanceOf, offerSaid, asQuote, quoteSaid}
+use Rattle.planner.specs.Call.{Call, Noted, does, reply}
+use Rattle.planner.specs.CallLaws.{none-noted}
 use Rattle.reading.specs.declared.Kind.{Kind}
 use Rattle.reading.specs.declared.Kind.the-variants as kind
 use Rattle.reading.specs.Model.{lineKind, readable, numbersOf}
-use Rattle.lines.specs.Model.{Answered, unread, costsIn, allowancesOf, farmLine, offerIn, accountLine, inTurn, called, recorded, longest, answered}
+use Rattle.lines.specs.Model.{costsIn, allowancesOf, offerIn, Asks, anOpening, aCall, noCall, asked, longest, lineAsks, Answered, unread, called, answeredAs, answeredWith, answered}
 use Rattle.demands.specs.CallLists.{History, opening, run, heldOf}
 use Rattle.demands.specs.Demand1.{open-keeps}
 use Rattle.demands.specs.Kept.{run-keeps}
 use Rattle.demands.specs.Demand3.{Demand3, demand3}
-use Rattle.printed.specs.Model.{linesIn, answers, dayText, answersOf, texts, otherKind, withoutQuotes, otherAnswers}
-use Rattle.printed.specs.QuoteLines.{answers-texts, quote-farm, answers-without}
-use Rattle.printed.specs.DayCalls.{callsIn, farmAfter, Print, answer, printTexts, calledPrints, unreadPrints, recordedPrints, linePrints, prints, collect, chunkIn, chunksIn, told, goneAs, goneIn, acceptedOn, acceptedIn, readIn, Reading, farm-after, answers-text, collect-prints, read-lines, read-unopened, chunks-reading, accepted-reading, gone-reading}
+use Rattle.printed.specs.Model.{linesIn, answers, dayText, answersOf, texts, withoutQuotes, otherAnswers}
+use Rattle.printed.specs.QuoteLines.{answers-texts, answers-without}
+use Rattle.printed.specs.DayCalls.{callsIn, farmAfter, Print, chunk, answer, printTexts, printsOf, linePrints, prints, collect, chunkIn, chunksIn, goneOn, goneIn, acceptedOn, acceptedIn, readIn, Reading, farm-after, answers-text, collect-prints, read-lines, read-unopened, chunks-reading, accepted-reading, gone-reading}
 
 -- ---- Lines
 
@@ -45,9 +48,9 @@ allowancesOn l = allowancesOf (numbersOf l)
 abbrev pub farmOn : List ℕ → Farm
 farmOn l = openFarm (getD (numbersOf l) 0 0) (costsIn (numbersOf l)) (allowancesOn l)
 
--- a `farm` line whose opening is granted
+-- a line that asks for an opening, which is granted
 pub record Opens (l : List ℕ) : Type 0 where
-  pub line : Reads l kind.Farm
+  pub line : lineAsks l ≡ anOpening
   pub granted : openSaid (getD (numbersOf l) 0 0) (costsIn (numbersOf l)) (allowancesOn l) .number ≡ 0
 
 -- a line that leaves the farm unopened
@@ -104,51 +107,42 @@ pub data Day (ls : List (List ℕ)) : Type 0 where
 
 -- ---- A line that can be read
 
-answered-read : (f : Farm) (l : List ℕ) (k : Kind) → Reads l k → answered f l ≡ recorded f k (numbersOf l)
-unfolding answered
-answered-read f l k h =
-    ap (λ (b : Bool). cond b (cond (readable l) (recorded f (lineKind l) (numbersOf l)) (unread f)) (unread f)) (h .short)
-    ∙ ap (λ (b : Bool). cond b (recorded f (lineKind l) (numbersOf l)) (unread f)) (h .reads)
-    ∙ ap (λ (j : Kind). recorded f j (numbersOf l)) (h .is)
+reads-asks : (l : List ℕ) (k : Kind) → Reads l k → lineAsks l ≡ asked k
+unfolding lineAsks
+reads-asks l k h = rw (h .short, h .reads) (ap asked (h .is))
 
-prints-read : (f : Farm) (l : List ℕ) (k : Kind) → Reads l k → linePrints f l ≡ recordedPrints f k (numbersOf l)
-unfolding linePrints
-prints-read f l k h =
-    ap (λ (b : Bool). cond b (cond (readable l) (recordedPrints f (lineKind l) (numbersOf l)) unreadPrints) unreadPrints) (h .short)
-    ∙ ap (λ (b : Bool). cond b (recordedPrints f (lineKind l) (numbersOf l)) unreadPrints) (h .reads)
-    ∙ ap (λ (j : Kind). recordedPrints f j (numbersOf l)) (h .is)
+module _ (f : Farm) (l : List ℕ) (k : Kind) (g : ℕ → List ℕ → Call) (e : asked k ≡ aCall g) (o : f .opened ≡ true) (h : Reads l k) where
+  abbrev call : Call
+  call = g (length (numbersOf l)) (numbersOf l)
 
-account-prints : (f : Farm) (a : List ℕ) → f .opened ≡ true → Reads a kind.Account → linePrints f a ≡ answer (accountSaid f (getD (numbersOf a) 0 0)) ∷ []
-unfolding recordedPrints calledPrints
-account-prints f a o h =
-    prints-read f a kind.Account h ∙ ap (λ (b : Bool). cond b (answer (accountSaid f (getD (numbersOf a) 0 0)) ∷ []) unreadPrints) o
+  -- On an opened farm a line that is a call is answered as the call.
+  call-answered : answered f l ≡ called f call
+  unfolding answered answeredAs
+  call-answered =
+      ap (λ (a : Asks). answeredWith f a (numbersOf l)) (reads-asks l k h ∙ e)
+      ∙ ap (λ (b : Bool). cond b (called f call) (unread f)) o
 
-account-farm : (f : Farm) (a : List ℕ) → Reads a kind.Account → answered f a .farm ≡ f
-unfolding recorded called accountLine
-account-farm f a h = ap (λ (x : Answered). x .farm) (answered-read f a kind.Account h) ∙ go (f .opened)
-  where
-    go : (b : Bool) → cond {A = Answered} b (accountLine f (getD (numbersOf a) 0 0)) (unread f) .farm ≡ f
-    go true = refl
-    go false = refl
+  -- It prints its answer, where it issues no chunk.
+  call-prints : does f call .notes .lines ≡ [] → linePrints f l ≡ answer (reply f call) ∷ []
+  call-prints n =
+      ap printsOf call-answered
+      ∙ ap (λ (xs : List Chunk). map chunk xs ++ answer (reply f call) ∷ [])
+      (none-noted (λ (x : Noted). x .lines) f call n)
 
-quote-prints : (f : Farm) (q : List ℕ) → f .opened ≡ true → Reads q kind.Quote → linePrints f q ≡ answer (quoteSaid f (offerIn (length (numbersOf q)) (numbersOf q))) ∷ []
-unfolding recordedPrints calledPrints
-quote-prints f q o h =
-    prints-read f q kind.Quote h ∙ ap (λ (b : Bool). cond b (answer (quoteSaid f (offerIn (length (numbersOf q)) (numbersOf q))) ∷ []) unreadPrints) o
-
-job-prints : (f : Farm) (j : List ℕ) → f .opened ≡ true → Reads j kind.Job → linePrints f j ≡ answer (offerSaid f (offerIn (length (numbersOf j)) (numbersOf j))) ∷ []
-unfolding recordedPrints calledPrints
-job-prints f j o h =
-    prints-read f j kind.Job h ∙ ap (λ (b : Bool). cond b (answer (offerSaid f (offerIn (length (numbersOf j)) (numbersOf j))) ∷ []) unreadPrints) o
+-- the offer on a line
+abbrev offerOn : List ℕ → Offer
+offerOn l = offerIn (length (numbersOf l)) (numbersOf l)
 
 quoted-as : (f : Farm) (q j : List ℕ) → f .opened ≡ true → Reads q kind.Quote → Reads j kind.Job → numbersOf q ≡ numbersOf j → QuotedAs f q j
 unfolding quoteSaid
 quoted-as f q j o h k e =
-    let same : answered f q .farm ≡ f = quote-farm f q (ap otherKind (h .is)) in
+    let same : answered f q .farm ≡ f = ap (λ (x : Answered). x .farm) (call-answered f q kind.Quote _ refl o h) in
     record {
-      told = offerSaid f (offerIn (length (numbersOf j)) (numbersOf j));
-      first = quote-prints f q o h ∙ ap (λ (ns : List ℕ). answer (asQuote (offerSaid f (offerIn (length ns) ns))) ∷ []) e;
-      next = ap (λ (g : Farm). linePrints g j) same ∙ job-prints f j o k;
+      told = offerSaid f (offerOn j);
+      first =
+          call-prints f q kind.Quote _ refl o h refl
+          ∙ ap (λ (ns : List ℕ). answer (asQuote (offerSaid f (offerIn (length ns) ns))) ∷ []) e;
+      next = ap (λ (g : Farm). linePrints g j) same ∙ call-prints f j kind.Job _ refl o k refl;
     }
 
 -- ---- The opening
@@ -180,56 +174,35 @@ opens-allowance l h s e =
     ap (λ (f : Farm). allowanceOf f s) (granted-opens (getD (numbersOf l) 0 0) (costsIn (numbersOf l)) al (h .granted))
     ∙ List·getD-append al (replicate (32 - length al) 0) 0 (s - 1) (omega (arith, b .0, b .1))
 
--- A `farm` line whose opening is granted hands its farm back.
+-- Before a farm is opened a line is answered what it asks for, an opening alone.
+unopened-asks : (l : List ℕ) (a : Asks) → lineAsks l ≡ a
+    → answered unopened l .farm ≡ answeredWith unopened a (numbersOf l) .farm
+unfolding answered
+unopened-asks l a e = ap (λ (x : Asks). answeredWith unopened x (numbersOf l) .farm) e
+
+-- A line whose opening is granted hands its farm back.
 pub opens-farm : (l : List ℕ) → Opens l → answered unopened l .farm ≡ farmOn l
-unfolding recorded called farmLine
-opens-farm l h = ap (λ (x : Answered). x .farm) (answered-read unopened l kind.Farm (h .line))
-
-refused-stays : (l : List ℕ) → Reads l kind.Farm → (m : ℕ) → openSaid (getD (numbersOf l) 0 0) (costsIn (numbersOf l)) (allowancesOn l) .number ≡ suc m → Stays l
-unfolding recorded called farmLine
-refused-stays l h m e =
-    ap (λ (x : Answered). x .farm) (answered-read unopened l kind.Farm h) ∙ open-keeps (getD (numbersOf l) 0 0) (costsIn (numbersOf l)) (allowancesOn l) m e
-
-other-stays : (l : List ℕ) (k : Kind) → Reads l k → inTurn k false ≡ false → Stays l
-unfolding recorded
-other-stays l k h e =
-    ap (λ (x : Answered). x .farm) (answered-read unopened l k h)
-    ∙ ap (λ (b : Bool). cond {A = Answered} b (called unopened k (length (numbersOf l)) (numbersOf l) (allowancesOf (numbersOf l))) (unread unopened) .farm) e
-
-unread-stays : (l : List ℕ) → readable l ≡ false → Stays l
-unfolding answered
-unread-stays l q = go (leb (length l) longest) (readable l) q
-  where
-    go : (a b : Bool) → b ≡ false → cond {A = Answered} a (cond b (recorded unopened (lineKind l) (numbersOf l)) (unread unopened)) (unread unopened) .farm ≡ unopened
-    go true true e = absurd (false≢true (sym e))
-    go true false e = refl
-    go false b e = refl
-
-long-stays : (l : List ℕ) → leb (length l) longest ≡ false → Stays l
-unfolding answered
-long-stays l p = ap (λ (a : Bool). cond {A = Answered} a (cond (readable l) (recorded unopened (lineKind l) (numbersOf l)) (unread unopened)) (unread unopened) .farm) p
+unfolding answeredAs
+opens-farm l h = unopened-asks l anOpening (h .line)
 
 -- Before a farm is opened a line leaves it unopened or opens one.
 pub stays-or-opens : (l : List ℕ) → Stays l ⊎ Opens l
-stays-or-opens l = short (leb (length l) longest) (readable l) refl refl
+unfolding answeredAs
+stays-or-opens l = go (lineAsks l) refl
   where
-    number : Reads l kind.Farm → (m : ℕ) → openSaid (getD (numbersOf l) 0 0) (costsIn (numbersOf l)) (allowancesOn l) .number ≡ m → Stays l ⊎ Opens l
+    said : Said
+    said = openSaid (getD (numbersOf l) 0 0) (costsIn (numbersOf l)) (allowancesOn l)
+
+    number : lineAsks l ≡ anOpening → (m : ℕ) → said .number ≡ m → Stays l ⊎ Opens l
     number h zero e = inr (record { line = h; granted = e })
-    number h (suc m) e = inl (refused-stays l h m e)
+    number h (suc m) e =
+        inl
+        (unopened-asks l anOpening h ∙ open-keeps (getD (numbersOf l) 0 0) (costsIn (numbersOf l)) (allowancesOn l) m e)
 
-    kinds : (k : Kind) → Reads l k → Stays l ⊎ Opens l
-    kinds kind.Farm h = number h (openSaid (getD (numbersOf l) 0 0) (costsIn (numbersOf l)) (allowancesOn l) .number) refl
-    kinds kind.Job h = inl (other-stays l kind.Job h refl)
-    kinds kind.Clock h = inl (other-stays l kind.Clock h refl)
-    kinds kind.Account h = inl (other-stays l kind.Account h refl)
-    kinds kind.Withdraw h = inl (other-stays l kind.Withdraw h refl)
-    kinds kind.Quote h = inl (other-stays l kind.Quote h refl)
-    kinds kind.Unreadable h = inl (other-stays l kind.Unreadable h refl)
-
-    short : (a b : Bool) → leb (length l) longest ≡ a → readable l ≡ b → Stays l ⊎ Opens l
-    short true true p q = kinds (lineKind l) (record { short = p; reads = q; is = refl })
-    short true false p q = inl (unread-stays l q)
-    short false b p q = inl (long-stays l p)
+    go : (a : Asks) → lineAsks l ≡ a → Stays l ⊎ Opens l
+    go anOpening h = number h (said .number) refl
+    go (aCall g) h = inl (unopened-asks l (aCall g) h)
+    go noCall h = inl (unopened-asks l noCall h)
 
 -- ---- Lines in two parts
 
@@ -283,7 +256,9 @@ stays-collect : {A : Type 0} (g : Print → List A) (noted : History → List A)
 stays-collect g noted x ls h = collect-prints g unopened ls ∙ stays-read (λ f ns. g) noted x ls h
 
 never-opens : (ls : List (List ℕ)) → All Stays ls → Day ls
-never-opens ls h = never h (stays-collect chunkIn _ chunks-reading ls h) (stays-read acceptedOn _ accepted-reading ls h) (stays-collect (told goneAs) _ gone-reading ls h)
+never-opens ls h =
+    never h (stays-collect chunkIn _ chunks-reading ls h) (stays-read acceptedOn _ accepted-reading ls h)
+    (stays-collect goneOn _ gone-reading ls h)
 
 module _ (before : List (List ℕ)) (l : List ℕ) (h : All Stays before) (o : Opens l) where
   lines-farm : (after : List (List ℕ)) → farmAfter unopened (before ++ l ∷ after) ≡ run (opening (farmOn l)) (callsIn after) .farm
@@ -374,14 +349,14 @@ module _ (before : List (List ℕ)) (l : List ℕ) (h : All Stays before) (o : O
 
       said : linePrints g a ≡ answer (accountOf (allowancesOn l) s (chunksIn (prints unopened (before ++ l ∷ part)))) ∷ []
       said =
-          account-prints g a (lines-opened part) r
+          call-prints g a kind.Account _ refl (lines-opened part) r refl
           ∙ ap (λ (x : Said). answer x ∷ [])
           (ap (λ (f : Farm). accountSaid f s) (lines-farm part) ∙ lines-account part s ∙ ap (accountOf (allowancesOn l) s) (sym (lines-chunks part)))
 
       then : linePrints g a ++ prints (answered g a .farm) rest ≡ answer (accountOf (allowancesOn l) s (chunksIn (prints unopened (before ++ l ∷ part)))) ∷ prints g rest
       then =
           ap (λ (ps : List Print). ps ++ prints (answered g a .farm) rest) said
-          ∙ ap (λ (f : Farm). answer (accountOf (allowancesOn l) s (chunksIn (prints unopened (before ++ l ∷ part)))) ∷ prints f rest) (account-farm g a r)
+          ∙ ap (λ (f : Farm). answer (accountOf (allowancesOn l) s (chunksIn (prints unopened (before ++ l ∷ part)))) ∷ prints f rest) (ap (λ (x : Answered). x .farm) (call-answered g a kind.Account _ refl (lines-opened part) r))
 
 -- ---- The theorems
 
@@ -393,7 +368,7 @@ day-demand3 before l after h o = record {
   costs = λ part rest e. lines-costs before l h o part;
   chunks = lines-chunks before l h o after;
   accepted = lines-read before l h o acceptedOn (λ (w : History). w .jobs) accepted-reading after;
-  gone = lines-collect before l h o (told goneAs) (λ (w : History). w .gone) gone-reading after;
+  gone = lines-collect before l h o goneOn (λ (w : History). w .gone) gone-reading after;
   demand = lines-demand before l h o after;
   accounts = λ part a rest e r. ap (λ (xs : List (List ℕ)). prints unopened (before ++ l ∷ xs)) e ∙ lines-accounts before l h o part a rest r;
   quoted = λ part q j rest e r k n. quoted-as (farmAfter unopened (before ++ l ∷ part)) q j (lines-opened before l h o part) r k n;

@@ -13,7 +13,7 @@ use Rattle.planner.specs.Clock.{keep, linesOfAll, raised, moveAsked, moveSaid, 
 use Rattle.text.specs.Model.{valueFrom}
 use Rattle.reading.specs.Model.{same, fields, allDigits, allNumbers, kindAmong, kindOf, readable}
 use Rattle.printing.specs.Model.{digits, reached, decimal, tabbed, lineText}
-use Rattle.lines.specs.Model.{answerText, chunkTexts, farmLine, jobLine, clockLine, accountLine, called, recorded, answered}
+use Rattle.lines.specs.Model.{answerText, chunkTexts, lineAsks, answeredAs, answered}
 use Rattle.printed.specs.Model.{linesIn, answers, dayText}
 
 -- its lines, a 0 for r put into the first and a tab for each space
@@ -43,5 +43,5 @@ listedText =
 
 -- The listing prints what the papers say, byte for byte: `open`, `yes`, `no`, the chunk lines, `clock` and the columns.
 pub listing-text : dayText listedLines ≡ listedText
-unfolding first left capacity cut greedy earliest finish sum noLater insertKey sortOnto nodeKeys ranked search bookingOf bookedAt bookOf chunksFrom spansOfAll afters fitAll keysBy plan booksAll allAtMost allAtLeast costsWithin countsWithin timesWithin jobWithin sharesKept jobKept jobPasses jobsPass noneOf allDiffer waitingPass passesOf openSaid openFarm ofNumber offerAsked offerSaid offerFarm keep linesOfAll raised moveAsked moveSaid moveFarm moveMemory accountSaid valueFrom same fields allDigits allNumbers kindAmong kindOf readable digits reached decimal tabbed lineText answerText chunkTexts farmLine jobLine clockLine accountLine called recorded answered linesIn answers
+unfolding first left capacity cut greedy earliest finish sum noLater insertKey sortOnto nodeKeys ranked search bookingOf bookedAt bookOf chunksFrom spansOfAll afters fitAll keysBy plan booksAll allAtMost allAtLeast costsWithin countsWithin timesWithin jobWithin sharesKept jobKept jobPasses jobsPass noneOf allDiffer waitingPass passesOf openSaid openFarm ofNumber offerAsked offerSaid offerFarm keep linesOfAll raised moveAsked moveSaid moveFarm moveMemory accountSaid valueFrom same fields allDigits allNumbers kindAmong kindOf readable digits reached decimal tabbed lineText answerText chunkTexts lineAsks answeredAs answered linesIn answers
 listing-text = refl

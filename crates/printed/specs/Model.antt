@@ -2,16 +2,15 @@
 -- crate lines.
 use Prim.Native.Nat.{ℕ}
 use mathlib.Core.List.{List, [], _∷_, _++_}
-use mathlib.Core.Bool.{Bool, true, false, cond}
+use mathlib.Core.Bool.{Bool, cond, not}
 use lib.Dec.{eqb}
 use Rattle.lists.specs.Keep.{keep, answersTo}
 use Rattle.planner.specs.declared.Farm.{Farm}
 use Rattle.planner.specs.Calls.{unopened}
 use Rattle.text.specs.Model.{newline}
-use Rattle.reading.specs.declared.Kind.{Kind}
 use Rattle.reading.specs.declared.Kind.the-variants as kind
-use Rattle.reading.specs.Model.{onFirst, lineKind}
-use Rattle.lines.specs.Model.{answered}
+use Rattle.reading.specs.Model.{same, onFirst, fields, firstOf, wordOf}
+use Rattle.lines.specs.Model.{answeredText, answered}
 
 -- the lines of the input: each ends with a newline, which the last one may lack
 unfoldable pub linesIn : List ℕ → List (List ℕ)
@@ -21,7 +20,7 @@ linesIn (b ∷ bs) = cond (eqb b newline) ([] ∷ linesIn bs) (onFirst b (linesI
 -- their answers, one after the other
 unfoldable pub answers : Farm → List (List ℕ) → List ℕ
 answers f [] = []
-answers f (l ∷ ls) = answered f l .text ++ answers (answered f l .farm) ls
+answers f (l ∷ ls) = answeredText (answered f l) ++ answers (answered f l .farm) ls
 
 -- what is printed for a whole input, from an unopened farm
 abbrev pub dayText : List ℕ → List ℕ
@@ -31,7 +30,9 @@ dayText bs = answers unopened (linesIn bs)
 
 -- each line with its answer
 abbrev pub answersOf : Farm → List (List ℕ) → List (List ℕ × List ℕ)
-answersOf f ls = answersTo (λ (g : Farm) (l : List ℕ). answered g l .farm) (λ (g : Farm) (l : List ℕ). answered g l .text) f ls
+answersOf f ls =
+    answersTo (λ (g : Farm) (l : List ℕ). answered g l .farm)
+    (λ (g : Farm) (l : List ℕ). answeredText (answered g l)) f ls
 
 -- such answers, one after the other
 unfoldable pub texts : List (List ℕ × List ℕ) → List ℕ
@@ -39,17 +40,8 @@ texts [] = []
 texts (a ∷ rest) = a .1 ++ texts rest
 
 -- whether its first field is another than `quote`
-abbrev pub otherKind : Kind → Bool
-otherKind kind.Farm = true
-otherKind kind.Job = true
-otherKind kind.Clock = true
-otherKind kind.Account = true
-otherKind kind.Withdraw = true
-otherKind kind.Quote = false
-otherKind kind.Unreadable = true
-
 abbrev pub noQuote : List ℕ → Bool
-noQuote l = otherKind (lineKind l)
+noQuote l = not (same (firstOf (fields l)) (wordOf kind.Quote))
 
 -- the lines without those that begin with `quote`, and what the others are answered among them
 abbrev pub withoutQuotes : List (List ℕ) → List (List ℕ)

@@ -95,7 +95,8 @@ module _ {f : Farm} {r : Rest} {block : List ℕ} {from : ℕ} {entry : List ℕ
 
     -- a line ends and is answered
     pub day-line : {x : Answered} {later : Farm} {empty : Rest} {most place : ℕ} {back : List ℕ} → end < length block → ended farm lineTo ≡ x → later ≡ x .farm → pendingOf empty ≡ part []
-        → WroteWithin most (answeredText x) at out back place → place ≤ length entry → DayAt f r block from entry later empty (end + 1) place back
+        → WroteWithin most (answeredText x) at out back place → place ≤ length entry
+        → DayAt f r block from entry later empty (end + 1) place back
     day-line h a d z w k =
         let y = fed-line f (pendingOf r) block from next end soFar (g .onward) e refl h in
         let b = ap₂ ended (g .farms) kept-line ∙ a in
@@ -128,11 +129,13 @@ end-part : (f : Farm) (l : List ℕ) → 1 ≤ length l → atEnd f (part l) ≡
 end-part f [] h = absurd (omega arith)
 end-part f (b ∷ l) h = refl
 
-pub end-line : (s : Session) (room : ℕ) → largest ≤ room → 1 ≤ s .rest .fill → length (s .rest .bytes) ≡ longest → endText s room ≡ answeredText (ended (s .farm) (pendingOf (s .rest)))
+pub end-line : (s : Session) (room : ℕ) → largest ≤ room → 1 ≤ s .rest .fill → length (s .rest .bytes) ≡ longest
+    → endText s room ≡ answeredText (ended (s .farm) (pendingOf (s .rest)))
 end-line s room h k n = rw (le-leb largest room h) (go (leb (s .rest .fill) longest) refl)
   where
     go : (b : Bool) → leb (s .rest .fill) longest ≡ b
-        → atEnd (s .farm) (cond b (part (take (s .rest .fill) (s .rest .bytes))) long) ≡ answeredText (ended (s .farm) (cond b (part (take (s .rest .fill) (s .rest .bytes))) long))
+        → atEnd (s .farm) (cond b (part (take (s .rest .fill) (s .rest .bytes))) long)
+        ≡ answeredText (ended (s .farm) (cond b (part (take (s .rest .fill) (s .rest .bytes))) long))
     go true e = end-part (s .farm) (take (s .rest .fill) (s .rest .bytes)) (omega (arith, leb-true (s .rest .fill) longest e, length-take-le (s .rest .fill) (s .rest .bytes) (omega (arith, leb-true (s .rest .fill) longest e))))
     go false e = refl
 
@@ -145,7 +148,8 @@ end-took s entry exit r t h = go (r .next) refl
     at : (n : ℕ) → r .next ≡ n → WroteWithin (length entry) (feed (s .farm) (pendingOf (s .rest)) (stretch 0 n (newline ∷ [])) .text) 0 entry exit (r .written)
     at n e = subst (λ (k : ℕ). WroteWithin (length entry) (feed (s .farm) (pendingOf (s .rest)) (stretch 0 k (newline ∷ [])) .text) 0 entry exit (r .written)) e (t .wrote)
 
-    go : (n : ℕ) → r .next ≡ n → WroteWithin (length entry) (answeredText (ended (s .farm) (pendingOf (s .rest)))) 0 entry exit (r .written)
+    go : (n : ℕ) → r .next ≡ n
+        → WroteWithin (length entry) (answeredText (ended (s .farm) (pendingOf (s .rest)))) 0 entry exit (r .written)
     go zero e = absurd (omega (arith, at 0 e .wrote .place, t .stops (omega arith)))
     go (suc zero) e = within-same (append-nil (answeredText (ended (s .farm) (pendingOf (s .rest))))) (at 1 e)
     go (suc (suc n)) e = absurd (omega (arith, t .inside (omega arith)))

@@ -59,7 +59,9 @@ choice-reachable false x y p q = q
 -- A line keeps it so.
 pub answered-reachable : (f : Farm) (l : List ℕ) → Reachable f → Reachable (answered f l .farm)
 unfolding answered answeredAs
-answered-reachable f l r = choice-reachable (inTurn (lineAsks l) (f .opened)) _ (unread f) (asked-reachable f (lineAsks l) _ (numbersOf l) _ r) r
+answered-reachable f l r =
+    choice-reachable (inTurn (lineAsks l) (f .opened)) _ (unread f)
+    (asked-reachable f (lineAsks l) _ (numbersOf l) _ r) r
 
 ended-reachable : (f : Farm) (p : Pending) → Reachable f → Reachable (ended f p .farm)
 ended-reachable f (part l) r = answered-reachable f l r
