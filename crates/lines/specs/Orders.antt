@@ -6,15 +6,26 @@ use Prim.Native.Nat.{ℕ}
 use lib.ListN.{getD, replicate}
 use Rattle.walk.specs.Model.{noChunk}
 use Rattle.planner.specs.declared.Farm.{Farm}
-use Rattle.planner.specs.declared.Command.the-variants as command
-use Rattle.planner.specs.declared.Query.the-variants as query
-use Rattle.planner.specs.Call.{move}
-use Rattle.planner.specs.CallKinds.{commandCall, queryCall}
+use Rattle.planner.specs.Call.{Call, offer, quote, withdraw, move, account}
 use Rattle.reading.specs.declared.Kind.{Kind}
 use Rattle.reading.specs.declared.Kind.the-variants as kind
+use Rattle.lines.specs.declared.Command.{Command}
+use Rattle.lines.specs.declared.Command.the-variants as command
+use Rattle.lines.specs.declared.Query.{Query}
+use Rattle.lines.specs.declared.Query.the-variants as query
 use Rattle.lines.specs.declared.Order.{Order}
 use Rattle.lines.specs.declared.Order.the-variants as order
 use Rattle.lines.specs.Model.{offerIn, lent, asked, inTurn, Answered, unread, openingWith, called, answerTo}
+
+-- the call that a command is
+abbrev pub commandCall : Command → Call
+commandCall (command.Offer o) = offer o
+commandCall (command.Withdraw n) = withdraw n
+
+-- the call that a query is
+abbrev pub queryCall : Query → Call
+queryCall (query.Quote o) = quote o
+queryCall (query.Account s) = account s
 
 -- what a row of a kind, by its n numbers, asks for
 abbrev pub orderOf : Kind → ℕ → List ℕ → Order

@@ -4,8 +4,19 @@ pub mod answer;
 pub mod kept;
 pub mod step;
 
-use planner::Command;
-use planner::Query;
+use answers::Offer;
+
+// A call that decides which jobs wait.
+pub enum Command {
+    Offer(Offer),
+    Withdraw(u64),
+}
+
+// A call that only tells: the farm stays as it is.
+pub enum Query {
+    Quote(Offer),
+    Account(u64),
+}
 
 // What a line asks for: to open a farm, a call that decides which jobs wait, one that only tells, a clock move to a time, or nothing
 // that can be read.

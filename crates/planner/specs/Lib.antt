@@ -12,4 +12,3 @@ pub mod Clock
 pub mod ClockSteps
 pub mod Call
 pub mod CallLaws
-pub mod CallKinds

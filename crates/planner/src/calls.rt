@@ -6,9 +6,11 @@ ghost use mathlib.Core.List.{_++_};
 ghost use lib.ListN.{length, replicate};
 ghost use Rattle.planner.specs.Passes.{passesOf};
 ghost use Rattle.planner.specs.Calls.{said, Replies, unopened, openSaid, openFarm, accountSaid};
+ghost use Rattle.planner.specs.CallsSteps.{decidedFarm};
+use crate::Decision;
 use crate::Farm;
-use crate::Query;
 use crate::Reply;
+use crate::passing::passes;
 use answers::Answer;
 use answers::Question;
 use answers::columns;
@@ -107,14 +109,20 @@ impl Farm {
     pub fn account(self, show: u64) -> Reply
         ensures { λ r. ⌜ Replies r (accountSaid self show) self ⌝ }
     {
-        self.tell(Query::Account(show))
+        Reply {
+            answer: self.account_answer(show),
+            farm: self,
+        }
     }
 
     // The answer by itself, for a caller that keeps the farm.
     pub fn account_answer(self, show: u64) -> Answer
         ensures { λ r. ⌜ said r ≡ accountSaid self show ⌝ }
     {
-        self.tell_answer(Query::Account(show))
+        if !passes(self) {
+            return Answer::No(Question::Farm);
+        }
+        self.account_unchecked(show)
     }
 
     // The same of a farm that passes question 11: question 4.
@@ -130,6 +138,21 @@ impl Farm {
         let allowances = self.allowances;
         columns(held, allowances, show)
     }
+}
+
+// The reply of a decision: where it is granted, the farm with what it says of the waiting jobs.
+pub fn decided(farm: Farm, decision: Decision) -> Reply
+    ensures { λ r. ⌜ r ≡ record { answer = decision .answer; farm = decidedFarm farm decision } ⌝ }
+{
+    let answer = decision.answer;
+    let mut next = farm;
+    if decision.granted {
+        let jobs = decision.jobs;
+        next.used = decision.used;
+        next.waiting = decision.waiting;
+        next.jobs = jobs;
+    }
+    Reply { answer, farm: next }
 }
 
 // A refusal hands back the farm as it was.

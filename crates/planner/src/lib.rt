@@ -2,15 +2,12 @@
 // one back. What each call means is in specs/Calls.antt and specs/Clock.antt.
 mod calls;
 mod clock;
-mod commands;
 mod offers;
 mod passing;
-mod queries;
 mod quote;
 mod withdraw;
 
 use answers::Answer;
-use answers::Offer;
 use limits::FarmCosts;
 use timetable::Due;
 use walk::Chunk;
@@ -39,19 +36,7 @@ pub struct Reply {
     pub farm: Farm,
 }
 
-// A call that decides which jobs wait.
-pub enum Command {
-    Offer(Offer),
-    Withdraw(u64),
-}
-
-// A call that only tells: the farm stays as it is.
-pub enum Query {
-    Quote(Offer),
-    Account(u64),
-}
-
-// What a command comes to: whether it is granted, its answer and, where it is granted, the
+// What a call that decides which jobs wait comes to: whether it is granted, its answer and, where it is granted, the
 // count of numbers used then and the first `waiting` of these jobs, which wait then.
 pub struct Decision {
     pub granted: bool,

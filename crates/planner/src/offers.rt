@@ -5,10 +5,12 @@ ghost use Rattle.planner.specs.Passes.{passesOf};
 ghost use Rattle.planner.specs.Calls.{Replies, offerSaid, offerFarm};
 ghost use Rattle.planner.specs.CallsSteps.{Decides, Offered};
 ghost use Rattle.planner.specs.OfferSteps.{walkSaid, walkFarm};
-use crate::Command;
 use crate::Decision;
 use crate::Farm;
 use crate::Reply;
+use crate::calls::decided;
+use crate::calls::refused;
+use crate::passing::passes;
 use answers::Answer;
 use answers::Asked;
 use answers::Offer;
@@ -79,7 +81,10 @@ impl Farm {
     pub fn offer(self, offer: Offer) -> Reply
         ensures { λ r. ⌜ Replies r (offerSaid self offer) (offerFarm self offer) ⌝ }
     {
-        self.decide(Command::Offer(offer))
+        if !passes(self) {
+            return refused(self, Question::Farm);
+        }
+        decided(self, self.offer_unchecked(offer))
     }
 
     // An offer to a farm that passes question 11: what it is told and, where it is accepted, the jobs that wait then. The caller

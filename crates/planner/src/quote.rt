@@ -4,10 +4,11 @@ ghost use mathlib.Core.Path.{_≡_};
 ghost use Rattle.planner.specs.Passes.{passesOf};
 ghost use Rattle.planner.specs.Calls.{said, Replies, quoteSaid};
 use crate::Farm;
-use crate::Query;
 use crate::Reply;
+use crate::passing::passes;
 use answers::Answer;
 use answers::Offer;
+use answers::Question;
 use answers::as_quote;
 
 impl Farm {
@@ -15,14 +16,20 @@ impl Farm {
     pub fn quote(self, offer: Offer) -> Reply
         ensures { λ r. ⌜ Replies r (quoteSaid self offer) self ⌝ }
     {
-        self.tell(Query::Quote(offer))
+        Reply {
+            answer: self.quote_answer(offer),
+            farm: self,
+        }
     }
 
     // The answer of a quote by itself, for a caller that keeps the farm.
     pub fn quote_answer(self, offer: Offer) -> Answer
         ensures { λ r. ⌜ said r ≡ quoteSaid self offer ⌝ }
     {
-        self.tell_answer(Query::Quote(offer))
+        if !passes(self) {
+            return Answer::No(Question::Farm);
+        }
+        self.quote_unchecked(offer)
     }
 
     // The same of a farm that passes question 11.

@@ -4,10 +4,12 @@ ghost use mathlib.Core.Path.{_≡_};
 ghost use Rattle.planner.specs.Passes.{passesOf};
 ghost use Rattle.planner.specs.Calls.{Replies, withdrawSaid, withdrawFarm};
 ghost use Rattle.planner.specs.CallsSteps.{Decides};
-use crate::Command;
 use crate::Decision;
 use crate::Farm;
 use crate::Reply;
+use crate::calls::decided;
+use crate::calls::refused;
+use crate::passing::passes;
 use answers::Answer;
 use answers::Question;
 use queue::closed_up;
@@ -18,7 +20,10 @@ impl Farm {
     pub fn withdraw(self, number: u64) -> Reply
         ensures { λ r. ⌜ Replies r (withdrawSaid self number) (withdrawFarm self number) ⌝ }
     {
-        self.decide(Command::Withdraw(number))
+        if !passes(self) {
+            return refused(self, Question::Farm);
+        }
+        decided(self, self.withdraw_unchecked(number))
     }
 
     // The same of a farm that passes question 11: what it is told and, where the number waits, the jobs that wait then. The caller keeps the farm.

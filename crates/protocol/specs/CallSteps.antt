@@ -16,19 +16,19 @@ use Rattle.timetable.specs.BeginSteps.{chunks}
 use Rattle.planner.specs.declared.Farm.{Farm}
 use Rattle.planner.specs.declared.Move.{Move}
 use Rattle.planner.specs.declared.Decision.{Decision}
-use Rattle.planner.specs.declared.Command.{Command}
-use Rattle.planner.specs.declared.Command.the-variants as command
-use Rattle.planner.specs.declared.Query.{Query}
-use Rattle.planner.specs.declared.Query.the-variants as query
 use Rattle.planner.specs.Changes.{withJobs}
 use Rattle.planner.specs.CallsSteps.{Decides}
 use Rattle.planner.specs.Call.{offer, quote, withdraw, account, reply, handed}
-use Rattle.planner.specs.CallKinds.{commandCall, queryCall}
 use Rattle.planner.specs.Model.{Sized}
 use Rattle.planner.specs.Calls.{Said}
 use Rattle.planner.specs.Clock.{moveSaid, moveLines}
 use Rattle.planner.specs.Calls.{said}
 use Rattle.planner.specs.ClockSteps.{Begins, MoveDecides, begins-few, begins-places, begins-sends, begins-lines, begins-count, move-taken}
+use Rattle.lines.specs.declared.Command.{Command}
+use Rattle.lines.specs.declared.Command.the-variants as command
+use Rattle.lines.specs.declared.Query.{Query}
+use Rattle.lines.specs.declared.Query.the-variants as query
+use Rattle.lines.specs.Orders.{commandCall, queryCall}
 use Rattle.lines.specs.Model.{answerText, chunkTexts, answeredText, called, lent}
 use Rattle.lines.specs.Rows.{call-text}
 use Rattle.lines.specs.AnswerLines.{rowTexts, front-texts}

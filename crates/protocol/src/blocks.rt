@@ -11,7 +11,9 @@ ghost use Rattle.protocol.specs.Reachable.{Reachable};
 use crate::Progress;
 use crate::Session;
 use limits::FarmCosts;
+use lines::Command;
 use lines::Order;
+use lines::Query;
 use lines::Rest;
 use lines::answer::put_answer;
 use lines::answer::put_move;
@@ -99,10 +101,17 @@ pub fn answer_block(
         } else {
             match order {
                 Order::Query(query) => {
-                    at = put_answer(out, at, farm.tell_unchecked(query));
+                    let answer = match query {
+                        Query::Account(show) => farm.account_unchecked(show),
+                        Query::Quote(offer) => farm.quote_unchecked(offer),
+                    };
+                    at = put_answer(out, at, answer);
                 }
                 Order::Command(command) => {
-                    let decision = farm.decide_unchecked(command);
+                    let decision = match command {
+                        Command::Offer(offer) => farm.offer_unchecked(offer),
+                        Command::Withdraw(number) => farm.withdraw_unchecked(number),
+                    };
                     let answer = decision.answer;
                     at = put_answer(out, at, answer);
                     if decision.granted {

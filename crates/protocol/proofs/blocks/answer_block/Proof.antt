@@ -1,6 +1,7 @@
 -- `protocol::blocks::answer_block` meets its contract: the farm is reachable, so that it passes question 11 once it is opened.
 use borrow.Author.Needs.{needs}
 use mathlib.Core.Path.{_≡_, refl, ap, sym, subst, _∙_}
+use mathlib.Core.Logic.{⊎-elim}
 use mathlib.Core.Bool.{Bool, true}
 use mathlib.Core.List.{List}
 use Prim.Native.Nat.{ℕ, _+_, _-_, _≤_, _<_}
@@ -12,14 +13,20 @@ use Rattle.text.specs.Writing.{WroteWithin, within-same}
 use Rattle.reading.specs.declared.Row.{Row}
 use Rattle.planner.specs.declared.Farm.{Farm}
 use Rattle.planner.specs.declared.Move.{Move}
+use Rattle.planner.specs.declared.Decision.{Decision}
 use Rattle.planner.specs.Model.{Sized}
 use Rattle.planner.specs.Passes.{passesOf}
+use Rattle.planner.specs.Calls.{said}
+use Rattle.planner.specs.CallsSteps.{Decides}
+use Rattle.planner.specs.Call.{reply, handed}
 use Rattle.planner.specs.ClockSteps.{Begins, MoveDecides, move-refused, move-taken, none-due-yet}
+use Rattle.lines.specs.declared.Command.{Command}
+use Rattle.lines.specs.declared.Query.{Query}
 use Rattle.lines.specs.declared.Order.{Order}
 use Rattle.lines.specs.Model.{lent, asked, inTurn, Answered, answeredText, Pending}
 use Rattle.lines.specs.Feeding.{keptAll, stretch}
 use Rattle.lines.specs.PendingLine.{kept-row}
-use Rattle.lines.specs.Orders.{orderOf, orderTurn, orderAnswer, order-is, open-kind}
+use Rattle.lines.specs.Orders.{commandCall, queryCall, orderOf, orderTurn, orderAnswer, order-is, open-kind}
 use Rattle.lines.specs.Rows.{FarmRow, pendingOf, rowIn, byRow, allowancesIn, row-farm, row-turn, row-unread, unread-text, opening-text, move-called}
 use Rattle.protocol.specs.Reachable.{Reachable, reachable-passes, reachable-sized}
 use Rattle.protocol.specs.CallSteps.{command-text, query-text, query-keeps, decided-granted, decided-refused, clock-plain, rows-asked, rows-fit, clock-text}
@@ -244,8 +251,17 @@ loop-again c =
     let t = c .before .before .before .before .before in
     answers t (row-unread (farm t) (row t) (turn-is t ∙ sym (t .in-turn .ensures) ∙ not-true _ (c .before .before .before .before .if4 .taken))) refl (within-same (unread-text (farm t)) (c .before .before .put-unread .ensures)) (omega arith)
 
-tell-unchecked-requires : tie.Need-tell-unchecked-requires Inv-loop μ-loop
-tell-unchecked-requires c κs = let n = c .before .before .before .before in passes n (order-turn n (c .before .before .order .given .1))
+enum-known-query : tie.Need-enum-known-query Inv-loop μ-loop
+enum-known-query c = search needs
+
+account-unchecked-requires : tie.Need-account-unchecked-requires Inv-loop μ-loop
+account-unchecked-requires c κs = let n = c .before .before .before .before .before .before in passes n (order-turn n (c .before .before .before .before .order .given .1))
+
+enum-known-query-2 : tie.Need-enum-known-query-2 Inv-loop μ-loop
+enum-known-query-2 c = search needs
+
+quote-unchecked-requires : tie.Need-quote-unchecked-requires Inv-loop μ-loop
+quote-unchecked-requires c κs = let n = c .before .before .before .before .before .before in passes n (order-turn n (c .before .before .before .before .order .given .1))
 
 put-answer-requires : tie.Need-put-answer-requires Inv-loop μ-loop
 put-answer-requires c κs = omega (arith, room (turn (c .before .before .before .before .before)))
@@ -253,16 +269,37 @@ put-answer-requires c κs = omega (arith, room (turn (c .before .before .before 
 loop-less-2 : tie.Need-loop-less-2 Inv-loop μ-loop
 loop-less-2 c = less (turn (c .before .before .before .before .before .before .before .before))
 
+-- where a query has been answered
+abbrev Told : Type 0
+Told = To (λ (c : From loop-less-2). c .before .before .before .before)
+
+-- It is told what it asks.
+query-told : (m : Told) → said (m .match2 .answer) ≡ reply (farm (turn (m .before .before .before .before))) (queryCall (m .before .before .order .given .0 .0))
+query-told m =
+    let f = farm (turn (m .before .before .before .before)) in
+    ⊎-elim (λ x. ap said (x .4) ∙ x .3 .ensures ∙ ap (λ (q : Query). reply f (queryCall q)) (sym (x .1 .given .1)))
+    (λ x. ap said (x .4) ∙ x .3 .ensures ∙ ap (λ (q : Query). reply f (queryCall q)) (sym (x .1 .given .1))) (m .match2 .came)
+
 loop-again-2 : tie.Need-loop-again-2 Inv-loop μ-loop
 loop-again-2 c =
     let n = c .before .before .before .before .before .before .before .before in
-    answers (turn n) (by-order n (c .before .before .before .before .before .before .order .given .1)) (sym (query-keeps (farm (turn n)) (c .before .before .before .before .before .before .order .given .0 .0))) (within-same (query-text (farm (turn n)) (c .before .before .before .before .before .before .order .given .0 .0) (c .before .before .before .tell-unchecked .ensures)) (c .before .before .put-answer .ensures)) (omega arith)
+    let q = c .before .before .before .before .before .before .order .given .0 .0 in
+    answers (turn n) (by-order n (c .before .before .before .before .before .before .order .given .1)) (sym (query-keeps (farm (turn n)) q)) (within-same (query-text (farm (turn n)) q (query-told (c .before .before .before .before))) (c .before .before .put-answer .ensures)) (omega arith)
 
 enum-known-order-2 : tie.Need-enum-known-order-2 Inv-loop μ-loop
 enum-known-order-2 c = search needs
 
-decide-unchecked-requires : tie.Need-decide-unchecked-requires Inv-loop μ-loop
-decide-unchecked-requires c κs = let n = c .before .before .before in passes n (order-turn n (c .before .order2 .given .1))
+enum-known-command : tie.Need-enum-known-command Inv-loop μ-loop
+enum-known-command c = search needs
+
+offer-unchecked-requires : tie.Need-offer-unchecked-requires Inv-loop μ-loop
+offer-unchecked-requires c κs = let n = c .before .before .before .before .before .before in passes n (order-turn n (c .before .before .before .before .order2 .given .1))
+
+enum-known-command-2 : tie.Need-enum-known-command-2 Inv-loop μ-loop
+enum-known-command-2 c = search needs
+
+withdraw-unchecked-requires : tie.Need-withdraw-unchecked-requires Inv-loop μ-loop
+withdraw-unchecked-requires c κs = let n = c .before .before .before .before .before .before in passes n (order-turn n (c .before .before .before .before .order2 .given .1))
 
 put-answer-requires-2 : tie.Need-put-answer-requires-2 Inv-loop μ-loop
 put-answer-requires-2 c κs = omega (arith, room (turn (c .before .before .before .before .before)))
@@ -270,10 +307,23 @@ put-answer-requires-2 c κs = omega (arith, room (turn (c .before .before .befor
 loop-less-3 : tie.Need-loop-less-3 Inv-loop μ-loop
 loop-less-3 c = less (turn (c .before .before .before .before .before .before .before .before .before .before))
 
+-- where a command has been decided
+abbrev Decided : Type 0
+Decided = To (λ (c : From loop-less-3). c .before .before .before .before .before .before)
+
+-- The decision is that of the call.
+command-decided : (m : Decided) → let f = farm (turn (m .before .before .before .before)) in let k = m .before .before .order2 .given .0 .0 in Decides f (reply f (commandCall k)) (handed f (commandCall k)) (m .match3 .decision)
+command-decided m =
+    let f = farm (turn (m .before .before .before .before)) in
+    let k = m .before .before .order2 .given .0 .0 in
+    let D : Command → Decision → Type 0 = λ (x : Command) (d : Decision). Decides f (reply f (commandCall x)) (handed f (commandCall x)) d in
+    ⊎-elim (λ x. subst (D k) (sym (x .4)) (subst (λ (y : Command). D y (x .3 .result)) (sym (x .1 .given .1)) (x .3 .ensures)))
+    (λ x. subst (D k) (sym (x .4)) (subst (λ (y : Command). D y (x .3 .result)) (sym (x .1 .given .1)) (x .3 .ensures))) (m .match3 .came)
+
 loop-again-3 : tie.Need-loop-again-3 Inv-loop μ-loop
 loop-again-3 c =
     let n = c .before .before .before .before .before .before .before .before .before .before in
-    let d = c .before .before .before .before .before .before .decide-unchecked .ensures in
+    let d = command-decided (c .before .before .before .before .before .before) in
     answers (turn n) (by-order n (c .before .before .before .before .before .before .before .before .order2 .given .1)) (decided-granted d (c .before .if5 .taken)) (within-same (command-text (farm (turn n)) (c .before .before .before .before .before .before .before .before .order2 .given .0 .0) (d .says)) (c .before .before .before .before .put-answer2 .ensures)) (omega arith)
 
 loop-less-4 : tie.Need-loop-less-4 Inv-loop μ-loop
@@ -282,7 +332,7 @@ loop-less-4 c = less (turn (c .before .before .before .before .before .before .b
 loop-again-4 : tie.Need-loop-again-4 Inv-loop μ-loop
 loop-again-4 c =
     let n = c .before .before .before .before .before .before .before .before .before in
-    let d = c .before .before .before .before .before .decide-unchecked .ensures in
+    let d = command-decided (c .before .before .before .before .before) in
     answers (turn n) (by-order n (c .before .before .before .before .before .before .before .order2 .given .1)) (decided-refused d (c .if5 .left)) (within-same (command-text (farm (turn n)) (c .before .before .before .before .before .before .before .order2 .given .0 .0) (d .says)) (c .before .before .before .put-answer2 .ensures)) (omega arith)
 
 enum-known-order-3 : tie.Need-enum-known-order-3 Inv-loop μ-loop
@@ -399,12 +449,18 @@ answer-block-spec =
     loop-less
     loop-again
     enum-known-order
-    tell-unchecked-requires
+    enum-known-query
+    account-unchecked-requires
+    enum-known-query-2
+    quote-unchecked-requires
     put-answer-requires
     loop-less-2
     loop-again-2
     enum-known-order-2
-    decide-unchecked-requires
+    enum-known-command
+    offer-unchecked-requires
+    enum-known-command-2
+    withdraw-unchecked-requires
     put-answer-requires-2
     loop-less-3
     loop-again-3

@@ -1,6 +1,6 @@
--- `planner::commands::decided` meets its contract.
-use Rattle.planner.proofs.commands.decided.Statement.{statement}
-use Rattle.planner.proofs.commands.decided.Tie as tie
+-- `planner::calls::decided` meets its contract.
+use Rattle.planner.proofs.calls.decided.Statement.{statement}
+use Rattle.planner.proofs.calls.decided.Tie as tie
 
 returns : tie.Need-returns
 returns c = rw (c .before .if1 .taken)
