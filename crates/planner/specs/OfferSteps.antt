@@ -99,8 +99,8 @@ module _ (f : Farm) (j : Job) (o : Offered f j) (free : length (f .free) ≡ 64)
   queued-jobs = rw (add-one (f .waiting)) (take-suc-set (f .jobs) (f .waiting) j (omega (arith, o .waiting)))
 
   -- What the walk of them starts from.
-  pub queued-ready : (f .waiting + 1 ≤ 128) × Ready (termsOf f) (busyOf f) (take (f .waiting + 1) (set (f .jobs) (f .waiting) j))
-  queued-ready = (omega (arith, o .waiting), rw queued-jobs (offer-ready f j o))
+  pub queued-ready : (f .waiting + 1 ≤ 128) × (f .waiting < 128) × Ready (termsOf f) (busyOf f) (take (f .waiting + 1) (set (f .jobs) (f .waiting) j))
+  queued-ready = (omega (arith, o .waiting), o .waiting, rw queued-jobs (offer-ready f j o))
 
   abbrev planOf : List Job
   planOf = plan (termsOf f) (busyOf f) (byDeadline (waitingOf f ++ j ∷ []))

@@ -44,9 +44,8 @@ fn planned(farm: Farm, job: Job) -> Decision
     let used = farm.used;
     let waiting = farm.waiting;
     let count = waiting + 1;
-    let mut queue = farm.jobs;
-    queue[waiting] = job;
-    let plan = walked(terms, busy, queue, count);
+    let old = farm.jobs;
+    let plan = walked(terms, busy, old, count, waiting, job);
     let jobs = plan.jobs;
     if !plan.ok {
         return Decision {

@@ -20,12 +20,6 @@ abbrev μ-loop : tie.MeasureT-loop
 add-count : tie.Need-add-count Inv-loop μ-loop
 add-count c = omega (arith, c .before .before .pre .waiting)
 
-mul-queue : tie.Need-mul-queue Inv-loop μ-loop
-mul-queue c = omega (arith, c .before .before .before .pre .waiting)
-
-array-set-from-queue : tie.Need-array-set-from-queue Inv-loop μ-loop
-array-set-from-queue c = omega (arith, c .before .before .before .pre .waiting)
-
 walked-requires : tie.Need-walked-requires Inv-loop μ-loop
 walked-requires c κs =
     let s = c .before .before .before in
@@ -115,8 +109,8 @@ yes-requires c κs =
     let long = planned-long (a .farm) (a .job) (s .pre) free full (w .result) (w .ensures) ok in
     new-sends (a .farm) (a .job) (s .pre) free full (w .result) (w .ensures) ok (l .place) (seek-end (a .job .number) (w .result .jobs) _ long (l .place) (l .end) (l .inv) (c .before .loop-test .left))
 
-add-t33 : tie.Need-add-t33 Inv-loop μ-loop
-add-t33 c = omega (arith, c .before .before .before .before .before .before .before .before .before .before .before .pre .used)
+add-t30 : tie.Need-add-t30 Inv-loop μ-loop
+add-t30 c = omega (arith, c .before .before .before .before .before .before .before .before .before .before .before .pre .used)
 
 returns-2 : tie.Need-returns-2 Inv-loop μ-loop
 returns-2 c =
@@ -137,8 +131,6 @@ planned-spec =
     Inv-loop
     μ-loop
     add-count
-    mul-queue
-    array-set-from-queue
     walked-requires
     returns
     loop-holds
@@ -152,5 +144,5 @@ planned-spec =
     mul-yes
     array-copy-out-yes
     yes-requires
-    add-t33
+    add-t30
     returns-2)
