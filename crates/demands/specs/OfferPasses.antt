@@ -31,6 +31,7 @@ use Rattle.soundness.specs.Sound.{JobKept, Behind, Paired, fits-behind, job-spa
 use Rattle.demands.specs.QuestionEleven.{passes-iff}
 use Rattle.limits.specs.Tests.{and-both}
 use Rattle.planner.specs.PassesSteps.{passes-within, passes-jobs}
+use Rattle.walk.specs.Chunks.{finish-shares}
 use Rattle.walk.specs.WalkSteps.{best-sends}
 use Rattle.walk.specs.BestWalk.{BestAll, walk-best}
 use Rattle.walk.specs.Plan.{plan-chain, plan-all, plan-numbers, plan-length}
@@ -172,7 +173,7 @@ best-planned f b j n r l h x =
         count = (omega (arith, s .shares), s .few);
         nodes = k .known;
       };
-      kept = record { clock = omega (arith, k .after); each = k .each; all = k .all; ends = k .ends };
+      kept = record { clock = omega (arith, k .after); each = k .each; all = k .all; ends = omega (arith, finish-shares (f .costs) (step w b j) (k .paired), k .ends) };
       paired = (k .paired, omega (arith, k .paired));
       sized = booking-sized (step w b j) (x .blank) (omega (arith, s .nodes, s .few)) (omega (arith, s .shares, s .few));
     }

@@ -23,7 +23,7 @@ use Rattle.walk.specs.declared.Terms.{Terms}
 use Rattle.walk.specs.declared.Busy.{Busy}
 use Rattle.walk.specs.declared.Plan.{Plan}
 use Rattle.walk.specs.Model.{greatest, noJob, defaultCosts, byDeadline, requestOf, step, busyAfter, plan, booksAll}
-use Rattle.walk.specs.Chunks.{Sends}
+use Rattle.walk.specs.Chunks.{Sends, finish-shares}
 
 -- a job that can be walked
 abbrev pub Walkable : Job → Type 0
@@ -63,7 +63,7 @@ best-sends w b j f r h d p x =
       nodes = sym k;
       shares = sym (k ∙ x .best .choice .paired);
       known = all-map (λ y a. (a .0, omega (arith, a .1))) (chosen q) (x .best .choice .known);
-      ends = omega (arith, x .best .choice .ends);
+      ends = omega (arith, finish-shares (w .costs) (step w b j) (x .best .choice .paired), x .best .choice .ends);
       costs = r;
       compute = p;
     }
