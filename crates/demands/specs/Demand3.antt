@@ -41,7 +41,7 @@ use lib.ListN.{length, take, replicate, length-replicate, getD-replicate}
 use Rattle.lists.specs.Laws.{All, Pairs, Differ, all-map, all-of, all-image, image-all, all-append, all-join, pairs-across, pairs-parts, perm-all, perm-mem, perm-pairs, mem-image, at-member, mem-left, mem-right, map-join}
 use Rattle.limits.specs.declared.FarmCosts.{FarmCosts}
 use Rattle.shares.specs.Model.{sum}
-use Rattle.booking.specs.Best.{freeAt, units}
+use Rattle.booking.specs.Best.{freeAt}
 use Rattle.walk.specs.declared.Job.{Job}
 use Rattle.walk.specs.declared.Busy.{Busy}
 use Rattle.walk.specs.declared.Chunk.{Chunk}

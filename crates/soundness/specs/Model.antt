@@ -48,7 +48,8 @@ jobWithin g j =
 
 -- a job's shares: each at least 1, its size in all, and finished by its deadline
 unfoldable pub sharesKept : FarmCosts → Job → Bool
-sharesKept c j = allAtLeast 1 (units (j .booking)) && eqb (sum (units (j .booking))) (j .size) && leb (finishOf c j) (j .deadline)
+sharesKept c j =
+    allAtLeast 1 (units (j .booking)) && eqb (sum (units (j .booking))) (j .size) && leb (finishOf c j) (j .deadline)
 
 -- a waiting job by itself: its start not before the clock, its shares, and its finish
 unfoldable pub jobKept : Figures → Job → Bool

@@ -1,5 +1,5 @@
 -- What the functions promise each other: what each turn of the loops keeps, and that no sum wraps.
-use Prim.Native.Nat.{ℕ, suc, max, _+_, _-_, _≤_, _<_}
+use Prim.Native.Nat.{ℕ, max, _+_, _-_, _≤_, _<_}
 use mathlib.Core.Path.{_≡_, refl, ap, _∙_}
 use mathlib.Core.List.{List, [], _∷_, _++_}
 use mathlib.Core.Bool.{Bool, true, false, _&&_, not, and-false}
@@ -82,11 +82,15 @@ known-none b ks n = rw (slice-empty n ks)
 
 -- ---- The shares of a booking
 
--- the shares of a booking from chunk i on, behind s units, the send before it having ended at t: each at least 1, z units in all, and finished by d
+-- the shares of a booking from chunk i on, behind s units, the send before it having ended at t: each at least 1, z units
+-- in all, and finished by d
 unfoldable pub keptFrom : ChunkTerms → Booking → ℕ → ℕ → ℕ → ℕ → ℕ → Bool
-keptFrom w b z d s i t = allAtLeast 1 (drop i (units b)) && eqb (s + sum (drop i (units b))) z && leb (latestFrom w b i t) d
+keptFrom w b z d s i t =
+    allAtLeast 1 (drop i (units b)) && eqb (s + sum (drop i (units b))) z && leb (latestFrom w b i t) d
 
-pub kept-start : (c : FarmCosts) (j : Job) (w : ChunkTerms) → w ≡ chunkTerms c j → sharesKept c j ≡ keptFrom w (j .booking) (j .size) (j .deadline) 0 0 (j .booking .start)
+-- All of a job's shares are left at first.
+pub kept-start : (c : FarmCosts) (j : Job) (w : ChunkTerms) → w ≡ chunkTerms c j
+    → sharesKept c j ≡ keptFrom w (j .booking) (j .size) (j .deadline) 0 0 (j .booking .start)
 unfolding sharesKept keptFrom
 kept-start c j w q = let e : 0 + sum (units (j .booking)) ≡ sum (units (j .booking)) = omega arith in rw (q, e)
 
@@ -97,30 +101,40 @@ max-leb a b d h = go (leb b d) refl
     go true e = le-leb (max a b) d (omega (arith, leb-true b d e))
     go false e = lt-leb (max a b) d (omega (arith, leb-false b d e))
 
--- A booking with a node and a share for each chunk, and the chunk that the code makes of the next one.
+-- A booking with a node and a share for each chunk, of which chunk i comes next.
 module _ (w : ChunkTerms) (b : Booking) (n : length (chosen b) ≡ b .count) (u : length (units b) ≡ b .count) (z d s i t : ℕ) where
   module _ (h : i < b .count) where
+    -- Its share is followed by those after it.
     units-next : drop i (units b) ≡ getD (b .shares) i 0 ∷ drop (i + 1) (units b)
     units-next = rw (drop-cons (units b) i 0 (omega arith), add-one i, getD-take (b .count) (b .shares) i 0 h)
 
+    -- Its share is 0.
     pub kept-small : getD (b .shares) i 0 < 1 → keptFrom w b z d s i t ≡ false
     unfolding keptFrom allAtLeast
     kept-small l =
-        let e : allAtLeast 1 (drop i (units b)) ≡ false = ap (allAtLeast 1) units-next ∙ rw (lt-leb 1 (getD (b .shares) i 0) l) in
+        let e : allAtLeast 1 (drop i (units b)) ≡ false =
+        ap (allAtLeast 1) units-next ∙ rw (lt-leb 1 (getD (b .shares) i 0) l) in
         rw e
 
+    -- the chunk that the code makes of it
     module _ (x : Chunk) (e : x ≡ chunkAt w b i t) where
       latest-is : latestFrom w b i t ≡ max (x .finish) (latestFrom w b (i + 1) (x .sent))
       latest-is = rw e (latest-next w b n u i t h)
 
-      pub kept-more : (a : ℕ) → a ≡ getD (b .shares) i 0 → 1 ≤ a → x .finish ≤ d → keptFrom w b z d s i t ≡ keptFrom w b z d (s + a) (i + 1) (x .sent)
+      -- It passes.
+      pub kept-more : (a : ℕ) → a ≡ getD (b .shares) i 0 → 1 ≤ a → x .finish ≤ d
+          → keptFrom w b z d s i t ≡ keptFrom w b z d (s + a) (i + 1) (x .sent)
       unfolding keptFrom allAtLeast sum
       kept-more a q l m =
-          let each : allAtLeast 1 (drop i (units b)) ≡ allAtLeast 1 (drop (i + 1) (units b)) = ap (allAtLeast 1) units-next ∙ rw (← q, le-leb 1 a l) in
-          let all : s + sum (drop i (units b)) ≡ s + a + sum (drop (i + 1) (units b)) = omega (arith, ap sum units-next, q) in
-          let ends : leb (latestFrom w b i t) d ≡ leb (latestFrom w b (i + 1) (x .sent)) d = ap (λ (k : ℕ). leb k d) latest-is ∙ max-leb (x .finish) (latestFrom w b (i + 1) (x .sent)) d m in
+          let each : allAtLeast 1 (drop i (units b)) ≡ allAtLeast 1 (drop (i + 1) (units b)) =
+          ap (allAtLeast 1) units-next ∙ rw (← q, le-leb 1 a l) in
+          let all : s + sum (drop i (units b)) ≡ s + a + sum (drop (i + 1) (units b)) =
+          omega (arith, ap sum units-next, q) in
+          let ends : leb (latestFrom w b i t) d ≡ leb (latestFrom w b (i + 1) (x .sent)) d =
+          ap (λ (k : ℕ). leb k d) latest-is ∙ max-leb (x .finish) (latestFrom w b (i + 1) (x .sent)) d m in
           rw (each, all, ends)
 
+      -- It is late.
       pub kept-late : d < x .finish → keptFrom w b z d s i t ≡ false
       unfolding keptFrom
       kept-late l =
@@ -131,6 +145,7 @@ module _ (w : ChunkTerms) (b : Booking) (n : length (chosen b) ≡ b .count) (u 
       pub sent-finish : x .sent ≤ x .finish
       sent-finish = rw e (omega arith)
 
+  -- None is left at the end.
   pub kept-none : b .count ≤ i → keptFrom w b z d s i t ≡ eqb s z && leb t d
   unfolding keptFrom allAtLeast sum
   kept-none h =
@@ -163,8 +178,10 @@ all-bounded g js u e =
     }) js (says-jobs g js .yields e)
 
 -- A booking of at most 64 chunks has a node and a share for each.
-pub each-stored : (b : Booking) → b .count ≤ 64 → length (b .nodes) ≡ 64 → length (b .shares) ≡ 64 → (length (chosen b) ≡ b .count) × (length (units b) ≡ b .count)
-each-stored b h n u = (length-take-le (b .count) (b .nodes) (omega arith), length-take-le (b .count) (b .shares) (omega arith))
+pub each-stored : (b : Booking) → b .count ≤ 64 → length (b .nodes) ≡ 64 → length (b .shares) ≡ 64
+    → (length (chosen b) ≡ b .count) × (length (units b) ≡ b .count)
+each-stored b h n u =
+    (length-take-le (b .count) (b .nodes) (omega arith), length-take-le (b .count) (b .shares) (omega arith))
 
 -- Their chunks can be worked out.
 pub bounded-sends : (c : FarmCosts) (j : Job) → Bounded c j → length (j .booking .nodes) ≡ 64 → length (j .booking .shares) ≡ 64 → Sends c j
@@ -257,14 +274,16 @@ differ-none xs = rw (drop-length xs)
 
 -- ---- The chunks of a job behind the free times
 
--- Of a booking's chunks those from the i-th on are left, behind `now`, the send before it having ended at t: whether all fit behind `busy` is whether these fit
--- behind `now`, whatever follows.
+-- Of a booking's chunks those from the i-th on are left, behind `now`, the send before it having ended at t: whether all
+-- fit behind `busy` is whether these fit behind `now`, whatever follows.
 pub record Fitting (w : ChunkTerms) (busy : Busy) (b : Booking) (now : Busy) (t i : ℕ) : Type 0 where
-  pub rest : (xs : List Span) → fitAll busy (placed (b .start) (linesFrom w b 0 (b .start)) ++ xs) ≡ fitAll now (placed (b .start) (linesFrom w b i t) ++ xs)
+  pub rest : (xs : List Span)
+      → fitAll busy (placed (b .start) (linesFrom w b 0 (b .start)) ++ xs) ≡ fitAll now (placed (b .start) (linesFrom w b i t) ++ xs)
 
 pub fitting-start : (w : ChunkTerms) (busy : Busy) (b : Booking) → Fitting w busy b busy (b .start) 0
 fitting-start w busy b = record { rest = λ xs. refl }
 
+-- A job whose chunks can be worked out, what they have in common, and where the loop over them stands.
 module _ (c : FarmCosts) (busy : Busy) (j : Job) (s : Sends c j) (w : ChunkTerms) (q : w ≡ chunkTerms c j) (now : Busy) (t i : ℕ) (u : Fitting w busy (j .booking) now t i) where
   abbrev b : Booking
   b = j .booking
@@ -275,7 +294,8 @@ module _ (c : FarmCosts) (busy : Busy) (j : Job) (s : Sends c j) (w : ChunkTerms
 
   module _ (h : i < b .count) (x : Chunk) (e : x ≡ chunkAt w b i t) where
     next : (xs : List Span) → fitAll now (placed (b .start) (linesFrom w b i t) ++ xs)
-        ≡ leb (now .link) (x .start) && leb (freeAt (now .free) (x .node)) (b .start) && fitAll (after now x) (placed (b .start) (linesFrom w b (i + 1) (x .sent)) ++ xs)
+        ≡ leb (now .link) (x .start) && leb (freeAt (now .free) (x .node)) (b .start)
+        && fitAll (after now x) (placed (b .start) (linesFrom w b (i + 1) (x .sent)) ++ xs)
     unfolding fitAll
     next xs = rw (e, lines-next w b (s .nodes) (s .shares) i t h)
 

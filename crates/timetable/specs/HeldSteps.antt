@@ -38,7 +38,8 @@ add-most (x ∷ hs) (suc p) zero a = omega arith
 add-most (x ∷ hs) (suc p) (suc k) a = add-most hs p k a
 
 -- Chunks add at most the greatest tick each.
-raise-most : (hs : List ℕ) (t k : ℕ) (xs : List Chunk) → latest t xs ≤ greatest → getD (raised hs xs) k 0 ≤ getD hs k 0 + length xs * greatest
+raise-most : (hs : List ℕ) (t k : ℕ) (xs : List Chunk) → latest t xs ≤ greatest
+    → getD (raised hs xs) k 0 ≤ getD hs k 0 + length xs * greatest
 unfolding raised latest
 raise-most hs t k [] e = omega arith
 raise-most hs t k (x ∷ xs) e =
@@ -50,16 +51,17 @@ raise-most hs t k (x ∷ xs) e =
 pub job-most : (c : FarmCosts) (hs : List ℕ) (j : Job) (k : ℕ) → Sends c j → getD (raised hs (linesOf c j)) k 0 ≤ getD hs k 0 + 64_000_000_000_000
 job-most c hs j k x = omega (arith, x .few, job-lines c j x, raise-most hs (j .booking .start) k (linesOf c j) (x .ends))
 
--- where the loop over a booking's chunks stands at chunk i, the send before it having ended at t: the chunks left raise the cells to what all of them make
--- of the first ones, and what has been added to the show's cell, at place p, is bounded
+-- where the loop over a booking's chunks stands at chunk i, the send before it having ended at t: the chunks left raise
+-- the cells to what all of them make of the first ones, and what has been added to the show's cell, at place p, is bounded
 pub record Raising (w : ChunkTerms) (b : Booking) (p : ℕ) (first cells : List ℕ) (t i : ℕ) : Type 0 where
   pub same : raised first (linesFrom w b 0 (b .start)) ≡ raised cells (linesFrom w b i t)
   pub ends : latestFrom w b i t ≤ greatest
   pub most : getD cells p 0 ≤ getD first p 0 + i * greatest
 
 -- The next chunk raises its show's cell.
-pub raising-next : (w : ChunkTerms) (b : Booking) → length (chosen b) ≡ b .count → length (units b) ≡ b .count → (p : ℕ) → p ≡ w .show - 1 → (first cells : List ℕ) (t i : ℕ)
-    → i < b .count → Raising w b p first cells t i → Raising w b p first (addTo cells p (holds (chunkAt w b i t))) (chunkAt w b i t .sent) (i + 1)
+pub raising-next : (w : ChunkTerms) (b : Booking) → length (chosen b) ≡ b .count → length (units b) ≡ b .count
+    → (p : ℕ) → p ≡ w .show - 1 → (first cells : List ℕ) (t i : ℕ) → i < b .count → Raising w b p first cells t i
+    → Raising w b p first (addTo cells p (holds (chunkAt w b i t))) (chunkAt w b i t .sent) (i + 1)
 unfolding raised
 raising-next w b n u p e first cells t i h x =
     let k = ends-next w b n u i t h (x .ends) in

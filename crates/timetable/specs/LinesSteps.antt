@@ -40,13 +40,18 @@ module _ (w : ChunkTerms) (b : Booking) (n : length (chosen b) ≡ b .count) (u 
 
   -- Its lines, one further: as records, and as rows.
   pub job-next : (l : List Chunk) → end ≤ length l → (i t : ℕ) → i < b .count
-      → Filled l (at + i) (linesFrom w b i t) end ≡ Filled (set l (at + i) (chunkAt w b i t)) (at + (i + 1)) (linesFrom w b (i + 1) (chunkAt w b i t .sent)) end
-  job-next l k i t h = filled-next l at i end (chunkAt w b i t) (linesFrom w b (i + 1) (chunkAt w b i t .sent)) (linesFrom w b i t) (lines-next w b n u i t h) (omega arith) k
+      → Filled l (at + i) (linesFrom w b i t) end
+      ≡ Filled (set l (at + i) (chunkAt w b i t)) (at + (i + 1)) (linesFrom w b (i + 1) (chunkAt w b i t .sent)) end
+  job-next l k i t h =
+      let rest = linesFrom w b (i + 1) (chunkAt w b i t .sent) in
+      filled-next l at i end (chunkAt w b i t) rest (linesFrom w b i t) (lines-next w b n u i t h) (omega arith) k
 
   pub row-next : (l : List (List ℕ)) → end ≤ length l → (i t : ℕ) → i < b .count
-      → Filled l (at + i) (map rowOf (linesFrom w b i t)) end ≡ Filled (set l (at + i) (rowOf (chunkAt w b i t))) (at + (i + 1)) (map rowOf (linesFrom w b (i + 1) (chunkAt w b i t .sent))) end
+      → Filled l (at + i) (map rowOf (linesFrom w b i t)) end
+      ≡ Filled (set l (at + i) (rowOf (chunkAt w b i t))) (at + (i + 1)) (map rowOf (linesFrom w b (i + 1) (chunkAt w b i t .sent))) end
   row-next l k i t h =
-      filled-next l at i end (rowOf (chunkAt w b i t)) (map rowOf (linesFrom w b (i + 1) (chunkAt w b i t .sent))) (map rowOf (linesFrom w b i t)) (ap (map rowOf) (lines-next w b n u i t h)) (omega arith) k
+      let rest = map rowOf (linesFrom w b (i + 1) (chunkAt w b i t .sent)) in
+      filled-next l at i end (rowOf (chunkAt w b i t)) rest (map rowOf (linesFrom w b i t)) (ap (map rowOf) (lines-next w b n u i t h)) (omega arith) k
 
   pub job-written : (l : List Chunk) (t : ℕ) → Filled l end (linesFrom w b (b .count) t) end ≡ l
   job-written l t = ap (λ (xs : List Chunk). Filled l end xs end) (lines-none w b n u (b .count) t (omega arith)) ∙ filled-all l end

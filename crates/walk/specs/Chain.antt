@@ -173,7 +173,8 @@ job-finish c j =
     (chunks-finish (j .booking .start) (linesOf c j))
 
 -- A job with a chunk finishes after its start.
-pub finish-after-start : (c : FarmCosts) (n : ℕ) (j : Job) → All (Proper n) (spansOf c j) → 1 ≤ length (linesOf c j) → j .booking .start < finishOf c j
+pub finish-after-start : (c : FarmCosts) (n : ℕ) (j : Job) → All (Proper n) (spansOf c j) → 1 ≤ length (linesOf c j)
+    → j .booking .start < finishOf c j
 unfolding latest
 finish-after-start c n j = go (j .booking .start) (linesOf c j)
   where

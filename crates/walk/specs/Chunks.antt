@@ -67,7 +67,8 @@ latest-shares w t (k ∷ ks) (a ∷ xs) e =
     let x = chunkOn w t k a in
     omega (arith, latest-cons w t k a (chunksFrom w (x .sent) ks xs), latest-shares w (x .sent) ks xs (omega arith))
 
--- **A job's finish** is that of its shares from its start on, where it has a node for each share; both are the start where it has none.
+-- **A job's finish** is that of its shares from its start on, where it has a node for each share; both are the start
+-- where it has none.
 pub finish-shares : (c : FarmCosts) (j : Job) → length (chosen (j .booking)) ≡ length (units (j .booking))
     → finishOf c j ≡ finish (ownCosts c j) (j .booking .start) (units (j .booking))
 finish-shares c j e = latest-shares (chunkTerms c j) (j .booking .start) (chosen (j .booking)) (units (j .booking)) e
@@ -94,7 +95,8 @@ latestFrom w b i t = latest t (linesFrom w b i t)
 
 -- What holds of a chunk wherever its send begins, and on whatever node, holds of each line of a job.
 pub lines-each : (P : Chunk → Type 0) (Q : ℕ → Type 0) (c : FarmCosts) (j : Job)
-    → ((t k a : ℕ) → Q a → P (chunkOn (chunkTerms c j) t k a)) → All Q (units (j .booking)) → All P (linesOf c j)
+    → ((t k a : ℕ) → Q a → P (chunkOn (chunkTerms c j) t k a)) → All Q (units (j .booking))
+    → All P (linesOf c j)
 unfolding chunksFrom
 lines-each P Q c j f = go (j .booking .start) (chosen (j .booking)) (units (j .booking))
   where
@@ -123,24 +125,31 @@ module _ (w : ChunkTerms) (b : Booking) (n : length (chosen b) ≡ b .count) (u 
         rw (drop-cons (chosen b) i 0 (omega arith), drop-cons (units b) i 0 (omega arith), add-one i, getD-take (b .count) (b .nodes) i 0 h, getD-take (b .count) (b .shares) i 0 h)
 
     -- The latest finish is its own or theirs.
-    pub latest-next : latestFrom w b i t ≡ max (chunkAt w b i t .finish) (latestFrom w b (i + 1) (chunkAt w b i t .sent))
+    pub latest-next : latestFrom w b i t
+        ≡ max (chunkAt w b i t .finish) (latestFrom w b (i + 1) (chunkAt w b i t .sent))
     latest-next =
-        ap (latest t) lines-next ∙ latest-cons w t (getD (b .nodes) i 0) (getD (b .shares) i 0) (linesFrom w b (i + 1) (chunkAt w b i t .sent))
+        ap (latest t) lines-next
+        ∙ latest-cons w t (getD (b .nodes) i 0) (getD (b .shares) i 0) (linesFrom w b (i + 1) (chunkAt w b i t .sent))
 
     -- Where they finish within the time range, so does it, and so do those after it.
-    pub ends-next : latestFrom w b i t ≤ greatest → (chunkAt w b i t .finish ≤ greatest) × (latestFrom w b (i + 1) (chunkAt w b i t .sent) ≤ greatest)
+    pub ends-next : latestFrom w b i t ≤ greatest
+        → (chunkAt w b i t .finish ≤ greatest) × (latestFrom w b (i + 1) (chunkAt w b i t .sent) ≤ greatest)
     ends-next e = let m = latest-next in (omega arith, omega arith)
 
 -- A job whose chunks can be worked out, and what its chunks have in common.
 module _ (c : FarmCosts) (j : Job) (s : Sends c j) where
   -- The next chunk's node is one of 64.
-  pub node-known : (i : ℕ) → i < j .booking .count → (1 ≤ getD (j .booking .nodes) i 0) × (getD (j .booking .nodes) i 0 ≤ 64)
+  pub node-known : (i : ℕ) → i < j .booking .count
+      → (1 ≤ getD (j .booking .nodes) i 0) × (getD (j .booking .nodes) i 0 ≤ 64)
   node-known i h =
-      all-front 0 (λ (k : ℕ). (1 ≤ k) × (k ≤ 64)) (j .booking .nodes) (j .booking .count) i h (omega (arith, s .nodes, length-take (j .booking .count) (j .booking .nodes))) (s .known)
+      let b = j .booking in
+      let many : b .count ≤ length (b .nodes) = omega (arith, s .nodes, length-take (b .count) (b .nodes)) in
+      all-front 0 (λ (k : ℕ). (1 ≤ k) × (k ≤ 64)) (b .nodes) (b .count) i h many (s .known)
 
   module _ (w : ChunkTerms) (e : w ≡ chunkTerms c j) where
     -- It can be worked out.
-    pub chunk-fits : (i t : ℕ) → latestFrom w (j .booking) i t ≤ greatest → CostsWithin (w .costs) × (w .compute ≤ 1_000_000) × (t ≤ greatest)
+    pub chunk-fits : (i t : ℕ) → latestFrom w (j .booking) i t ≤ greatest
+        → CostsWithin (w .costs) × (w .compute ≤ 1_000_000) × (t ≤ greatest)
     chunk-fits i t l = let m = latest-after t (linesFrom w (j .booking) i t) in rw e (s .costs, s .compute, omega arith)
 
     -- All of them finish within the time range.

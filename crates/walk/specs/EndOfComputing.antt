@@ -14,7 +14,8 @@ use Rattle.walk.specs.Returning.{back-last}
 use Rattle.walk.specs.Chunks.{lines-each}
 
 -- So it is of a chunk of at least 1 unit.
-pub chunk-computes : (w : ChunkTerms) → 1 ≤ w .compute → (t k a : ℕ) → 1 ≤ a → Computes (w .costs) (w .compute) (chunkOn w t k a)
+pub chunk-computes : (w : ChunkTerms) → 1 ≤ w .compute → (t k a : ℕ) → 1 ≤ a
+    → Computes (w .costs) (w .compute) (chunkOn w t k a)
 chunk-computes w some t k a h =
     let back = back-last (w .costs) (w .compute) t a in
     let computing : a ≤ a * w .compute = omega (arith, mul-le-mul-left a some) in

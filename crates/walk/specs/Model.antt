@@ -60,8 +60,8 @@ computeEnd c p t a = sendEnd (costsFor c p) t a + (c .nodesetup + a * p)
 abbrev pub chunkTerms : FarmCosts → Job → ChunkTerms
 chunkTerms c j = record { costs = c; compute = j .compute; job = j .number; show = j .show }
 
--- where the send of a chunk begins, the one before it having ended at t: at t, since sends run back to back. Before a job's first chunk, t is the job's start. This
--- is said here and nowhere else
+-- where the send of a chunk begins, the one before it having ended at t: at t, since sends run back to back. Before a
+-- job's first chunk t is the job's start. This is said here and nowhere else
 abbrev pub sendStart : ℕ → ℕ
 sendStart t = t
 

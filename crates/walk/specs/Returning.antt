@@ -56,7 +56,8 @@ as-dearer c p = let q : p + c .returning + 0 ≡ p + c .returning = omega arith 
 
 -- The free times that chunks leave go by their sends and finishes, and so by p + r alone.
 afters-dearer : (c : FarmCosts) (j : Job) (t : ℕ) (b : Busy) (ks xs : List ℕ)
-    → afters b (chunksFrom (chunkTerms (withoutReturn c) (dearer (c .returning) j)) t ks xs) ≡ afters b (chunksFrom (chunkTerms c j) t ks xs)
+    → afters b (chunksFrom (chunkTerms (withoutReturn c) (dearer (c .returning) j)) t ks xs)
+    ≡ afters b (chunksFrom (chunkTerms c j) t ks xs)
 unfolding chunksFrom afters
 afters-dearer c j t b [] [] = refl
 afters-dearer c j t b [] (a ∷ xs) = refl

@@ -1,7 +1,7 @@
 -- `soundness::shares_kept` meets its contract. The loop's invariant: what is left of the shares decides, behind the units and the sends so far, which
 -- are bounded so that no sum wraps. The measure is the chunks that are left.
 use mathlib.Core.Bool.{_&&_}
-use mathlib.Core.Path.{_≡_, refl, sym, ap, subst, _∙_}
+use mathlib.Core.Path.{_≡_, refl, sym, ap, _∙_}
 use Prim.Native.Nat.{ℕ, _*_, _-_, _≤_, _<_}
 use native.Mathlib.Omega.{arith}
 use lib.Dec.{leb, eqb}
