@@ -8,12 +8,12 @@ use mathlib.Core.Bool.{false}
 use lib.ListN.{replicate}
 use Rattle.lists.specs.Laws.{All}
 use Rattle.limits.specs.declared.FarmCosts.{FarmCosts}
-use Rattle.shares.specs.Model.{finish, sum, first, left, capacity, cut, greedy, earliest}
+use Rattle.shares.specs.Model.{sum, first, left, capacity, cut, greedy, earliest}
 use Rattle.keys.specs.Model.{noLater, insertKey, sortOnto}
 use Rattle.booking.specs.Best.{units}
 use Rattle.booking.specs.Model.{nodeKeys, ranked, search, bookingOf, bookedAt, bookOf}
 use Rattle.soundness.specs.Model.{noneOf, allDiffer, jobWithin, sharesKept, jobKept, jobPasses, jobsPass}
-use Rattle.walk.specs.Model.{noChunk}
+use Rattle.walk.specs.Model.{noChunk, latest}
 use Rattle.planner.specs.declared.Farm.{Farm}
 use Rattle.answers.specs.declared.Offer.{Offer}
 use Rattle.limits.specs.Model.{allAtMost, allAtLeast, costsWithin}
@@ -272,36 +272,36 @@ fourCosts = call.offer (offerOf 1 6 200) ∷ call.offer (offerWith 1 6 200 5) �
 
 -- every row comes out as expected
 pub cases-right : All Right cases
-unfolding run made outcome openFarm offerAsked offerSaid offerFarm ofNumber passesOf countsWithin timesWithin waitingPass costsWithin allAtMost allAtLeast jobsPass jobPasses jobWithin jobKept sharesKept noneOf allDiffer fitAll spansOfAll chunksFrom afters keysBy plan booksAll noLater insertKey sortOnto nodeKeys ranked search bookingOf bookedAt bookOf finish sum first left capacity cut greedy earliest
+unfolding run made outcome openFarm offerAsked offerSaid offerFarm ofNumber passesOf countsWithin timesWithin waitingPass costsWithin allAtMost allAtLeast jobsPass jobPasses jobWithin jobKept sharesKept noneOf allDiffer fitAll spansOfAll chunksFrom afters keysBy plan booksAll noLater insertKey sortOnto nodeKeys ranked search bookingOf bookedAt bookOf latest sum first left capacity cut greedy earliest
 cases-right = (refl, (refl, (refl, (refl, (refl, (refl, (refl, (refl, (refl, (refl, (refl, (refl, (refl, tt)))))))))))))
 
 -- so does every row of a job's own compute cost
 pub own-cases-right : All Right ownCases
-unfolding run made outcome openFarm offerAsked offerSaid offerFarm ofNumber passesOf countsWithin timesWithin waitingPass costsWithin allAtMost allAtLeast jobsPass jobPasses jobWithin jobKept sharesKept noneOf allDiffer fitAll spansOfAll chunksFrom afters keysBy plan booksAll noLater insertKey sortOnto nodeKeys ranked search bookingOf bookedAt bookOf finish sum first left capacity cut greedy earliest
+unfolding run made outcome openFarm offerAsked offerSaid offerFarm ofNumber passesOf countsWithin timesWithin waitingPass costsWithin allAtMost allAtLeast jobsPass jobPasses jobWithin jobKept sharesKept noneOf allDiffer fitAll spansOfAll chunksFrom afters keysBy plan booksAll noLater insertKey sortOnto nodeKeys ranked search bookingOf bookedAt bookOf latest sum first left capacity cut greedy earliest
 own-cases-right = (refl, (refl, (refl, (refl, (refl, (refl, (refl, tt)))))))
 
 -- so does every row of a withdrawal
 pub withdraw-cases-right : All Right withdrawCases
-unfolding run made outcome openFarm offerAsked offerSaid offerFarm hasNumber ofNumber without withdrawSaid withdrawFarm keep raised linesOfAll moveAsked moveFarm passesOf countsWithin timesWithin waitingPass costsWithin allAtMost allAtLeast jobsPass jobPasses jobWithin jobKept sharesKept noneOf allDiffer fitAll spansOfAll chunksFrom afters keysBy plan booksAll noLater insertKey sortOnto nodeKeys ranked search bookingOf bookedAt bookOf finish sum first left capacity cut greedy earliest
+unfolding run made outcome openFarm offerAsked offerSaid offerFarm hasNumber ofNumber without withdrawSaid withdrawFarm keep raised linesOfAll moveAsked moveFarm passesOf countsWithin timesWithin waitingPass costsWithin allAtMost allAtLeast jobsPass jobPasses jobWithin jobKept sharesKept noneOf allDiffer fitAll spansOfAll chunksFrom afters keysBy plan booksAll noLater insertKey sortOnto nodeKeys ranked search bookingOf bookedAt bookOf latest sum first left capacity cut greedy earliest
 withdraw-cases-right = (refl, (refl, (refl, (refl, (refl, (refl, (refl, tt)))))))
 
 -- so does every row of the way back
 pub return-cases-right : All Right returnCases
-unfolding run made outcome openFarm offerAsked offerSaid offerFarm hasNumber ofNumber without withdrawSaid withdrawFarm keep raised linesOfAll moveAsked moveFarm passesOf countsWithin timesWithin waitingPass costsWithin allAtMost allAtLeast jobsPass jobPasses jobWithin jobKept sharesKept noneOf allDiffer fitAll spansOfAll chunksFrom afters keysBy plan booksAll noLater insertKey sortOnto nodeKeys ranked search bookingOf bookedAt bookOf finish sum first left capacity cut greedy earliest
+unfolding run made outcome openFarm offerAsked offerSaid offerFarm hasNumber ofNumber without withdrawSaid withdrawFarm keep raised linesOfAll moveAsked moveFarm passesOf countsWithin timesWithin waitingPass costsWithin allAtMost allAtLeast jobsPass jobPasses jobWithin jobKept sharesKept noneOf allDiffer fitAll spansOfAll chunksFrom afters keysBy plan booksAll noLater insertKey sortOnto nodeKeys ranked search bookingOf bookedAt bookOf latest sum first left capacity cut greedy earliest
 return-cases-right = (refl, (refl, (refl, (refl, (refl, (refl, (refl, (refl, (refl, (refl, tt))))))))))
 
 -- so do the three quotes, and every row after them
 pub quotes-told : map (quoteSaid (made (openFarm 3 (costsOf 1 2 0 0 0) (30 ∷ 0 ∷ [])) listed)) quoted ≡ quotesTold
-unfolding quoteSaid run made outcome openFarm offerAsked offerSaid offerFarm hasNumber ofNumber without withdrawSaid withdrawFarm keep raised linesOfAll moveAsked moveFarm passesOf countsWithin timesWithin waitingPass costsWithin allAtMost allAtLeast jobsPass jobPasses jobWithin jobKept sharesKept noneOf allDiffer fitAll spansOfAll chunksFrom afters keysBy plan booksAll noLater insertKey sortOnto nodeKeys ranked search bookingOf bookedAt bookOf finish sum first left capacity cut greedy earliest
+unfolding quoteSaid run made outcome openFarm offerAsked offerSaid offerFarm hasNumber ofNumber without withdrawSaid withdrawFarm keep raised linesOfAll moveAsked moveFarm passesOf countsWithin timesWithin waitingPass costsWithin allAtMost allAtLeast jobsPass jobPasses jobWithin jobKept sharesKept noneOf allDiffer fitAll spansOfAll chunksFrom afters keysBy plan booksAll noLater insertKey sortOnto nodeKeys ranked search bookingOf bookedAt bookOf latest sum first left capacity cut greedy earliest
 quotes-told = refl
 
 pub quote-cases-right : All Right quoteCases
-unfolding run made outcome openFarm offerAsked offerSaid offerFarm hasNumber ofNumber without withdrawSaid withdrawFarm keep raised linesOfAll moveAsked moveFarm passesOf countsWithin timesWithin waitingPass costsWithin allAtMost allAtLeast jobsPass jobPasses jobWithin jobKept sharesKept noneOf allDiffer fitAll spansOfAll chunksFrom afters keysBy plan booksAll noLater insertKey sortOnto nodeKeys ranked search bookingOf bookedAt bookOf finish sum first left capacity cut greedy earliest
+unfolding run made outcome openFarm offerAsked offerSaid offerFarm hasNumber ofNumber without withdrawSaid withdrawFarm keep raised linesOfAll moveAsked moveFarm passesOf countsWithin timesWithin waitingPass costsWithin allAtMost allAtLeast jobsPass jobPasses jobWithin jobKept sharesKept noneOf allDiffer fitAll spansOfAll chunksFrom afters keysBy plan booksAll noLater insertKey sortOnto nodeKeys ranked search bookingOf bookedAt bookOf latest sum first left capacity cut greedy earliest
 quote-cases-right = (refl, (refl, (refl, tt)))
 
 -- After that withdrawal a walk of the waiting jobs alone does not book them all, so that an offer walked behind them is refused with 8 however small it is.
 pub old-job-fails : booksAll (termsOf (farmOf oldJobFails)) (busyOf (farmOf oldJobFails)) (byDeadline (waitingOf (farmOf oldJobFails))) ≡ false
-unfolding made openFarm offerAsked offerSaid offerFarm hasNumber ofNumber without withdrawSaid withdrawFarm passesOf countsWithin timesWithin waitingPass costsWithin allAtMost allAtLeast jobsPass jobPasses jobWithin jobKept sharesKept noneOf allDiffer fitAll spansOfAll chunksFrom afters keysBy plan booksAll noLater insertKey sortOnto nodeKeys ranked search bookingOf bookedAt bookOf finish sum first left capacity cut greedy earliest
+unfolding made openFarm offerAsked offerSaid offerFarm hasNumber ofNumber without withdrawSaid withdrawFarm passesOf countsWithin timesWithin waitingPass costsWithin allAtMost allAtLeast jobsPass jobPasses jobWithin jobKept sharesKept noneOf allDiffer fitAll spansOfAll chunksFrom afters keysBy plan booksAll noLater insertKey sortOnto nodeKeys ranked search bookingOf bookedAt bookOf latest sum first left capacity cut greedy earliest
 old-job-fails = refl
 
 -- The old plan stands all the same, and is issued: jobs 2 and 3 as they were booked, by 10 and by 20.
@@ -311,7 +311,7 @@ pub old-plan-stands : issued (offerFarm (farmOf oldJobFails) (oldJobFails .offer
     ∷ record { job = 3; show = 1; node = 2; units = 5; start = 9; sent = 14; finish = 19; computed = 19 }
     ∷ record { job = 3; show = 1; node = 1; units = 3; start = 14; sent = 17; finish = 20; computed = 20 }
     ∷ []
-unfolding made openFarm offerAsked offerSaid offerFarm hasNumber ofNumber without withdrawSaid withdrawFarm keep linesOfAll passesOf countsWithin timesWithin waitingPass costsWithin allAtMost allAtLeast jobsPass jobPasses jobWithin jobKept sharesKept noneOf allDiffer fitAll spansOfAll chunksFrom afters keysBy plan booksAll noLater insertKey sortOnto nodeKeys ranked search bookingOf bookedAt bookOf finish sum first left capacity cut greedy earliest
+unfolding made openFarm offerAsked offerSaid offerFarm hasNumber ofNumber without withdrawSaid withdrawFarm keep linesOfAll passesOf countsWithin timesWithin waitingPass costsWithin allAtMost allAtLeast jobsPass jobPasses jobWithin jobKept sharesKept noneOf allDiffer fitAll spansOfAll chunksFrom afters keysBy plan booksAll noLater insertKey sortOnto nodeKeys ranked search bookingOf bookedAt bookOf latest sum first left capacity cut greedy earliest
 old-plan-stands = refl
 
 -- Each of the four has computed SC + 6 × its own p after its send, and is back 18 ticks later.
@@ -321,5 +321,5 @@ pub computing-ended : issued (made (openFarm 3 (costsOf 1 5 2 4 3) (0 ∷ 0 ∷ 
     ∷ record { job = 3; show = 2; node = 3; units = 6; start = 16; sent = 24; finish = 52; computed = 34 }
     ∷ record { job = 4; show = 2; node = 3; units = 6; start = 52; sent = 60; finish = 136; computed = 118 }
     ∷ []
-unfolding made openFarm offerAsked offerSaid offerFarm hasNumber ofNumber without withdrawSaid withdrawFarm keep linesOfAll passesOf countsWithin timesWithin waitingPass costsWithin allAtMost allAtLeast jobsPass jobPasses jobWithin jobKept sharesKept noneOf allDiffer fitAll spansOfAll chunksFrom afters keysBy plan booksAll noLater insertKey sortOnto nodeKeys ranked search bookingOf bookedAt bookOf finish sum first left capacity cut greedy earliest
+unfolding made openFarm offerAsked offerSaid offerFarm hasNumber ofNumber without withdrawSaid withdrawFarm keep linesOfAll passesOf countsWithin timesWithin waitingPass costsWithin allAtMost allAtLeast jobsPass jobPasses jobWithin jobKept sharesKept noneOf allDiffer fitAll spansOfAll chunksFrom afters keysBy plan booksAll noLater insertKey sortOnto nodeKeys ranked search bookingOf bookedAt bookOf latest sum first left capacity cut greedy earliest
 computing-ended = refl

@@ -40,11 +40,9 @@ use borrow.Author.Tests.{eqb-true, eqb-false}
 use lib.Dec.{eqb}
 use lib.ListN.{length, take, replicate, length-replicate, getD-replicate}
 use Rattle.lists.specs.Laws.{All, Pairs, Differ, all-map, all-of, all-image, image-all, all-append, all-join, pairs-across, pairs-parts, perm-all, perm-mem, perm-pairs, mem-image, at-member, mem-left, mem-right, map-join}
-use Rattle.shares.specs.declared.Costs.{Costs}
 use Rattle.limits.specs.declared.FarmCosts.{FarmCosts}
-use Rattle.shares.specs.Model.{sum, finish}
-use Rattle.shares.specs.Lists.{Positive}
-use Rattle.booking.specs.Best.{freeAt, units}
+use Rattle.shares.specs.Model.{sum}
+use Rattle.booking.specs.Best.{freeAt}
 use Rattle.walk.specs.declared.Job.{Job}
 use Rattle.walk.specs.declared.Busy.{Busy}
 use Rattle.walk.specs.declared.Chunk.{Chunk}
@@ -52,7 +50,7 @@ use Rattle.planner.specs.declared.Farm.{Farm}
 use Rattle.answers.specs.declared.Offer.{Offer}
 use Rattle.planner.specs.Model.{mostHeld, between, costsWithin, ownCosts, Span, linesOf, spansOf, spansOfAll, Sized, after, afters, byDeadline, byStart, plan, waitingOf, busyOf, termsOf, Between, Apart}
 use Rattle.planner.specs.Passes.{passesOf}
-use Rattle.walk.specs.Chain.{Fits, Chain, chain-append, Proper, free-same, free-other, after-length, chain-apart}
+use Rattle.walk.specs.Chain.{Fits, Chain, chain-append, Proper, free-same, free-other, after-length, chain-apart, finish-after-start}
 use Rattle.walk.specs.Order.{by-start-perm}
 use Rattle.walk.specs.BestWalk.{BestAll, walk-best}
 use Rattle.planner.specs.CallsSteps.{walk-ready}
@@ -66,7 +64,7 @@ use Rattle.demands.specs.CallLists.{Call, offer, quote, withdraw, Accept
 use Rattle.demands.specs.BegunJobs.{lines-all}
 use Rattle.queue.specs.Numbers.{numberOfJob, of-number-has}
 use Rattle.demands.specs.WithdrawPasses.{leaves-others, withdrawn-waiting}
-use Rattle.demands.specs.MovePasses.{Waiting, waiting-jobs, booked-chain}
+use Rattle.demands.specs.MovePasses.{Waiting, waiting-jobs, booked-chain, lines-count}
 use Rattle.demands.specs.Outcome.{taken, Outcome, stays, takes, leaves, moves, granted-offer, granted-withdrawal, outcome}
 use Rattle.demands.specs.Invariant.{idle, Whole, Inv, spans-issued, busy-spans, whole-proper, issued-within-free, open-inv, note-inv, run-inv}
 use Rattle.demands.specs.Quotes.{quote-next, run-without, answers-without}
@@ -225,12 +223,6 @@ unfolding upTo
 up-to-differ zero = tt
 up-to-differ (suc n) = pairs-last (λ (a b : ℕ). a ≡ b → ⊥) (upTo n) (suc n) (up-to-differ n) (all-map (λ x h e. omega arith) (upTo n) (up-to-within n))
 
--- A job takes time.
-finish-after : (c : Costs) (t : ℕ) (xs : List ℕ) → 1 ≤ c .send → 1 ≤ length xs → Positive xs → t < finish c t xs
-unfolding finish
-finish-after c t [] m h p = absurd (omega arith)
-finish-after c t (a ∷ xs) m h p = omega (arith, mul-le-mul-right (c .send) (p .0))
-
 -- ---- From the invariant
 
 module _ (w : History) (i : Inv w) where
@@ -265,8 +257,7 @@ module _ (w : History) (i : Inv w) where
 
   job-early : (j : Job) → Waiting (w .farm) j → w .farm .clock < j .deadline
   job-early j h =
-      let m = passes-iff (w .farm) (i .sized) .0 (i .passes) .within .costs .send .0 in
-      omega (arith, h .sound .clock, h .sound .ends, finish-after (ownCosts (w .farm .costs) j) (j .booking .start) (units (j .booking)) m (omega (arith, h .paired .0, h .paired .1)) (h .sound .each))
+      omega (arith, h .sound .clock, h .sound .ends, finish-after-start (w .farm .costs) 64 j (h .proper) (omega (arith, lines-count (w .farm) j h, h .within .count .0)))
 
   waiting-booked : All (λ (j : Job). Booked (acceptedOf j) w) (waitingOf (w .farm))
   waiting-booked = all-of (waitingOf (w .farm)) (λ j m. record {

@@ -17,6 +17,8 @@ use Rattle.walk.specs.declared.Job.{Job}
 use Rattle.walk.specs.declared.Chunk.{Chunk}
 use Rattle.planner.specs.declared.Farm.{Farm}
 use Rattle.answers.specs.declared.Offer.{Offer}
+use Rattle.walk.specs.declared.ChunkTerms.{ChunkTerms}
+use Rattle.walk.specs.Model.{chunkTerms, chunkOn}
 use Rattle.planner.specs.Model.{costsFor, ownCosts, Span, chunksFrom, linesOf, spansOfAll, Sized, waitingOf, busyOf, termsOf, byDeadline, plan}
 use Rattle.planner.specs.Passes.{passesOf}
 use Rattle.walk.specs.Chain.{chunks-finish}
@@ -111,12 +113,12 @@ spans-start c js j d m =
     (all-map (λ x e q. ap (λ (k : Job). k .booking .start) (sym (of-number-is js i d n) ∙ ap (λ (a : ℕ). ofNumber a js) (sym e ∙ q) ∙ of-number-is js j d m)) (linesOf c i) (lines-named c i))))
 
 -- A job's chunks have as many units as its shares.
-chunks-units : (c : FarmCosts) (p j s t : ℕ) (ks xs : List ℕ) → length ks ≡ length xs → unitsIn (chunksFrom c p j s t ks xs) ≡ sum xs
+chunks-units : (w : ChunkTerms) (t : ℕ) (ks xs : List ℕ) → length ks ≡ length xs → unitsIn (chunksFrom w t ks xs) ≡ sum xs
 unfolding chunksFrom unitsIn sum
-chunks-units c p j s t [] [] e = refl
-chunks-units c p j s t [] (a ∷ xs) e = absurd (omega arith)
-chunks-units c p j s t (k ∷ ks) [] e = absurd (omega arith)
-chunks-units c p j s t (k ∷ ks) (a ∷ xs) e = ap (λ (n : ℕ). a + n) (chunks-units c p j s (sendEnd (costsFor c p) t a) ks xs (omega arith))
+chunks-units w t [] [] e = refl
+chunks-units w t [] (a ∷ xs) e = absurd (omega arith)
+chunks-units w t (k ∷ ks) [] e = absurd (omega arith)
+chunks-units w t (k ∷ ks) (a ∷ xs) e = ap (λ (n : ℕ). a + n) (chunks-units w (chunkOn w t k a .sent) ks xs (omega arith))
 
 -- The chunks of a whole job do what it was accepted for.
 pub whole-fulfils : (c : FarmCosts) (n : ℕ) (j : Job) → Whole c n j → Fulfils c (acceptedOf j) (linesOf c j)
@@ -129,11 +131,11 @@ whole-fulfils c n j h =
     record {
       named = job-named c j;
       each = lines-each (λ (y : Chunk). 1 ≤ y .units) Some c j (λ t k a l. l) (h .each);
-      all = chunks-units c (j .compute) (j .number) (j .show) s ks xs (h .paired .0) ∙ h .all;
+      all = chunks-units (chunkTerms c j) s ks xs (h .paired .0) ∙ h .all;
       sent = lines-each (λ (y : Chunk). y .sent ≡ sendEnd own (y .start) (y .units)) Some c j (λ t k a l. refl) (h .each);
       finish = lines-each (λ (y : Chunk). y .finish ≡ chunkFinish own (y .start) (y .units)) Some c j (λ t k a l. refl) (h .each);
       computed = job-computes c j (h .compute) (h .each);
-      ends = all-map (λ x k. omega (arith, h .ends)) (linesOf c j) (chunks-finish c (j .compute) (j .number) (j .show) s ks xs);
+      ends = all-map (λ x k. omega (arith, h .ends)) (linesOf c j) (chunks-finish s (linesOf c j));
     }
 
 -- ---- A job that waits

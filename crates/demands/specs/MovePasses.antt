@@ -12,6 +12,7 @@ use Rattle.booking.specs.Best.{chosen, units}
 use Rattle.walk.specs.declared.Job.{Job}
 use Rattle.walk.specs.declared.Chunk.{Chunk}
 use Rattle.planner.specs.declared.Farm.{Farm}
+use Rattle.walk.specs.Model.{chunkTerms}
 use Rattle.planner.specs.Model.{greatest, mostHeld, linesOf, spansOf, spansOfAll, JobSized, Sized, afters, fitAll, byStart, waitingOf, busyOf, Apart}
 use Rattle.soundness.specs.Model.{jobsPass, allDiffer}
 use Rattle.planner.specs.Passes.{figuresOf, numbersOf, waitingPass, passesOf, JobWithin, JobSound, Passes}
@@ -152,7 +153,7 @@ module _ (f : Farm) (sized : Sized f) (e : passesOf f ≡ true) where
 -- A waiting job has as many lines as its booking counts.
 pub lines-count : (f : Farm) (j : Job) → Waiting f j → length (linesOf (f .costs) j) ≡ j .booking .count
 lines-count f j h =
-    lines-length (f .costs) (j .compute) (j .number) (j .show) (j .booking .start) (chosen (j .booking)) (units (j .booking)) (h .paired .0)
+    lines-length (chunkTerms (f .costs) j) (j .booking .start) (chosen (j .booking)) (units (j .booking)) (h .paired .0)
     ∙ length-take-le (j .booking .count) (j .booking .shares) (omega (arith, h .sized .shares, h .within .count .1))
 
 -- Several waiting jobs have at most 64 lines each.

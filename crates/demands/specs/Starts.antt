@@ -8,10 +8,10 @@ use native.Mathlib.Omega.{arith}
 use borrow.Author.Tests.{leb-true, le-leb}
 use lib.ListN.{length}
 use Rattle.lists.specs.Laws.{All, Pairs, all-map, all-both, perm-all, perm-pairs, pairs-parts, pairs-across, at-member}
-use Rattle.limits.specs.declared.FarmCosts.{FarmCosts}
 use Rattle.booking.specs.Best.{chosen, units}
 use Rattle.walk.specs.declared.Job.{Job}
-use Rattle.walk.specs.Model.{spansFrom}
+use Rattle.walk.specs.declared.ChunkTerms.{ChunkTerms}
+use Rattle.walk.specs.Model.{chunkTerms, spansFrom}
 use Rattle.walk.specs.Chain.{Proper}
 use Rattle.walk.specs.Order.{by-start-perm}
 use Rattle.soundness.specs.Sweep.{spans-each}
@@ -29,16 +29,16 @@ abbrev pub StartsDiffer : Job → Job → Type 0
 StartsDiffer a b = a .booking .start ≡ b .booking .start → ⊥
 
 -- A job's first chunk is sent at its start.
-first-chunk : (P : Span → Type 0) (c : FarmCosts) (p n s f t : ℕ) (ks xs : List ℕ) → length ks ≡ length xs → 1 ≤ length ks
-    → All P (spansFrom c p n s f t ks xs) → (x : Span) × (P x × (x .chunk .start ≡ t))
+first-chunk : (P : Span → Type 0) (w : ChunkTerms) (f t : ℕ) (ks xs : List ℕ) → length ks ≡ length xs → 1 ≤ length ks
+    → All P (spansFrom w f t ks xs) → (x : Span) × (P x × (x .chunk .start ≡ t))
 unfolding chunksFrom
-first-chunk P c p n s f t [] xs e h a = absurd (omega arith)
-first-chunk P c p n s f t (k ∷ ks) [] e h a = absurd (omega arith)
-first-chunk P c p n s f t (k ∷ ks) (u ∷ xs) e h a = (_, (a .0, refl))
+first-chunk P w f t [] xs e h a = absurd (omega arith)
+first-chunk P w f t (k ∷ ks) [] e h a = absurd (omega arith)
+first-chunk P w f t (k ∷ ks) (u ∷ xs) e h a = (_, (a .0, refl))
 
 first-send : (P : Span → Type 0) (f : Farm) (j : Job) → Waiting f j → All P (spansOf (f .costs) j) → (x : Span) × ((P x × Proper 64 x) × (x .chunk .start ≡ j .booking .start))
 first-send P f j w a =
-    first-chunk (λ (x : Span). P x × Proper 64 x) (f .costs) (j .compute) (j .number) (j .show) (j .booking .start) (j .booking .start) (chosen (j .booking)) (units (j .booking)) (w .paired .0) (omega (arith, w .paired .1))
+    first-chunk (λ (x : Span). P x × Proper 64 x) (chunkTerms (f .costs) j) (j .booking .start) (j .booking .start) (chosen (j .booking)) (units (j .booking)) (w .paired .0) (omega (arith, w .paired .1))
     (all-both (λ x p q. (p, q)) (spansOf (f .costs) j) a (w .proper))
 
 -- Sends that share no tick begin at different ones.

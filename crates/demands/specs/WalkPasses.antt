@@ -21,6 +21,7 @@ use Rattle.planner.specs.Model.{greatest, defaultCosts, ownCosts, spansOfAll, J
 use Rattle.planner.specs.Passes.{figuresOf, JobWithin, JobSound, Within, Passes}
 use Rattle.planner.specs.Changes.{withQueue, jobs-within, queue-sized, queue-waits}
 use Rattle.walk.specs.Chain.{Fits, Chain, Proper, chain-follows, chain-apart}
+use Rattle.walk.specs.Chunks.{finish-shares}
 use Rattle.walk.specs.Order.{by-deadline-perm}
 use Rattle.walk.specs.WalkSteps.{FeasibleAll, feasible-sends, books-feasible}
 use Rattle.walk.specs.Plan.{plan-chain, plan-all, plan-numbers, plan-length}
@@ -81,7 +82,7 @@ feasible-planned f b j n r l h x =
         count = (omega (arith, s .shares), s .few);
         nodes = k .known;
       };
-      kept = record { clock = omega (arith, k .after); each = k .each; all = k .all; ends = k .ends };
+      kept = record { clock = omega (arith, k .after); each = k .each; all = k .all; ends = omega (arith, finish-shares (f .costs) (step w b j) (k .paired), k .ends) };
       paired = (k .paired, omega (arith, k .paired));
       sized = booking-sized (step w b j) (x .blank) (omega (arith, s .nodes, s .few)) (omega (arith, s .shares, s .few));
     }

@@ -2,9 +2,10 @@
 use mathlib.Core.Path.{_≡_, refl}
 use mathlib.Core.List.{List, [], _∷_}
 use Prim.Native.Nat.{ℕ}
-use Rattle.shares.specs.Model.{first, left, capacity, cut, greedy, earliest, finish, sum}
+use Rattle.shares.specs.Model.{first, left, capacity, cut, greedy, earliest, sum}
 use Rattle.keys.specs.Model.{noLater, insertKey, sortOnto}
 use Rattle.booking.specs.Model.{nodeKeys, ranked, search, bookingOf, bookedAt, bookOf}
+use Rattle.walk.specs.Model.{latest}
 use Rattle.soundness.specs.Model.{noneOf, allDiffer, jobWithin, sharesKept, jobKept, jobPasses, jobsPass}
 use Rattle.planner.specs.Model.{chunksFrom, spansOfAll, afters, fitAll, keysBy, plan, booksAll, allAtMost, allAtLeast, costsWithin}
 use Rattle.planner.specs.Passes.{countsWithin, timesWithin, waitingPass, passesOf}
@@ -43,5 +44,5 @@ listedText =
 
 -- The listing prints what the papers say, byte for byte: `open`, `yes`, `no`, the chunk lines, `clock` and the columns.
 pub listing-text : dayText listedLines ≡ listedText
-unfolding first left capacity cut greedy earliest finish sum noLater insertKey sortOnto nodeKeys ranked search bookingOf bookedAt bookOf chunksFrom spansOfAll afters fitAll keysBy plan booksAll allAtMost allAtLeast costsWithin countsWithin timesWithin jobWithin sharesKept jobKept jobPasses jobsPass noneOf allDiffer waitingPass passesOf openSaid openFarm ofNumber offerAsked offerSaid offerFarm keep linesOfAll raised moveAsked moveSaid moveFarm moveMemory accountSaid valueFrom same fields allDigits allNumbers kindAmong kindOf readable digits reached decimal tabbed lineText answerText chunkTexts lineAsks answeredAs answered linesIn answers
+unfolding first left capacity cut greedy earliest latest sum noLater insertKey sortOnto nodeKeys ranked search bookingOf bookedAt bookOf chunksFrom spansOfAll afters fitAll keysBy plan booksAll allAtMost allAtLeast costsWithin countsWithin timesWithin jobWithin sharesKept jobKept jobPasses jobsPass noneOf allDiffer waitingPass passesOf openSaid openFarm ofNumber offerAsked offerSaid offerFarm keep linesOfAll raised moveAsked moveSaid moveFarm moveMemory accountSaid valueFrom same fields allDigits allNumbers kindAmong kindOf readable digits reached decimal tabbed lineText answerText chunkTexts lineAsks answeredAs answered linesIn answers
 listing-text = refl

@@ -6,14 +6,14 @@ use mathlib.Core.List.{List, [], _∷_, map}
 use mathlib.Core.Bool.{Bool, true, _&&_, not}
 use lib.Dec.{leb, eqb}
 use Rattle.lists.specs.Laws.{All, Pairs, Differ}
-use Rattle.shares.specs.declared.Costs.{Costs}
-use Rattle.shares.specs.Model.{finish, sum}
+use Rattle.limits.specs.declared.FarmCosts.{FarmCosts}
+use Rattle.shares.specs.Model.{sum}
 use Rattle.shares.specs.Lists.{Positive}
 use Rattle.limits.specs.Model.{between, allAtMost, allAtLeast, Between}
 use Rattle.booking.specs.Best.{freeAt, chosen, units}
 use Rattle.walk.specs.declared.Job.{Job}
 use Rattle.walk.specs.declared.Busy.{Busy}
-use Rattle.walk.specs.Model.{greatest, ownCosts, finishOf, spansOfAll, byStart, fitAll, Apart}
+use Rattle.walk.specs.Model.{greatest, finishOf, spansOfAll, byStart, fitAll, Apart}
 use Rattle.soundness.specs.declared.Figures.{Figures}
 
 -- ---- The test
@@ -46,13 +46,14 @@ jobWithin g j =
     && between 1 (j .booking .count) 64
     && nodesKnown (g .nodes) (chosen (j .booking))
 
--- shares xs sent from t on: each at least 1, z units in all, and finished by d
-unfoldable pub sharesKept : Costs → ℕ → ℕ → ℕ → List ℕ → Bool
-sharesKept c z d t xs = allAtLeast 1 xs && eqb (sum xs) z && leb (finish c t xs) d
+-- a job's shares: each at least 1, its size in all, and finished by its deadline
+unfoldable pub sharesKept : FarmCosts → Job → Bool
+sharesKept c j =
+    allAtLeast 1 (units (j .booking)) && eqb (sum (units (j .booking))) (j .size) && leb (finishOf c j) (j .deadline)
 
 -- a waiting job by itself: its start not before the clock, its shares, and its finish
 unfoldable pub jobKept : Figures → Job → Bool
-jobKept g j = leb (g .clock) (j .booking .start) && sharesKept (ownCosts (g .costs) j) (j .size) (j .deadline) (j .booking .start) (units (j .booking))
+jobKept g j = leb (g .clock) (j .booking .start) && sharesKept (g .costs) j
 
 unfoldable pub jobPasses : Figures → Job → Bool
 jobPasses g j = jobWithin g j && jobKept g j

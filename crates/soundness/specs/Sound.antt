@@ -14,7 +14,7 @@ use Rattle.limits.specs.Says.{Says, says-le, says-eq, says-not-eq, says-as, say
 use Rattle.booking.specs.Best.{freeAt, chosen, units}
 use Rattle.walk.specs.declared.Job.{Job}
 use Rattle.walk.specs.declared.Busy.{Busy}
-use Rattle.walk.specs.Model.{greatest, finishOf, spansOf, spansOfAll, byStart, fitAll, Apart, JobSized}
+use Rattle.walk.specs.Model.{greatest, chunkTerms, finishOf, spansOf, spansOfAll, byStart, fitAll, Apart, JobSized}
 use Rattle.walk.specs.Chain.{Fits, Proper, fit-all-chain, chain-follows, follows-apart, job-proper}
 use Rattle.walk.specs.Order.{by-start-perm, by-start-grows}
 use Rattle.soundness.specs.declared.Figures.{Figures}
@@ -112,12 +112,12 @@ job-paired g j s w =
 pub fits-behind : (b : Busy) (c : FarmCosts) (j : Job) → Paired j → All (Fits b) (spansOf c j) → Behind b j
 fits-behind b c j p h =
     let s = j .booking .start in
-    (spans-first c (j .compute) (j .number) (j .show) s b s (chosen (j .booking)) (units (j .booking)) (p .0) (p .1) h, spans-free c (j .compute) (j .number) (j .show) s b s (chosen (j .booking)) (units (j .booking)) (p .0) h)
+    (spans-first (chunkTerms c j) s b s (chosen (j .booking)) (units (j .booking)) (p .0) (p .1) h, spans-free (chunkTerms c j) s b s (chosen (j .booking)) (units (j .booking)) (p .0) h)
 
 behind-fits : (b : Busy) (c : FarmCosts) (j : Job) → Behind b j → All (Fits b) (spansOf c j)
 behind-fits b c j h =
     let s = j .booking .start in
-    spans-fit c (j .compute) (j .number) (j .show) s b s (chosen (j .booking)) (units (j .booking)) (h .0) (h .1)
+    spans-fit (chunkTerms c j) s b s (chosen (j .booking)) (units (j .booking)) (h .0) (h .1)
 
 -- The sweep in order of start passes exactly if each job is behind the free times and all spans are apart.
 pub says-sweep : (c : FarmCosts) (b : Busy) (js : List Job) → length (b .free) ≡ 64 → All (λ (j : Job). Paired j × All (Proper 64) (spansOf c j)) js

@@ -1,5 +1,5 @@
 -- What the functions promise each other: what each turn of the loops keeps, and that no sum wraps.
-use Prim.Native.Nat.{ℕ, suc, max, _+_, _-_, _≤_, _<_}
+use Prim.Native.Nat.{ℕ, max, _+_, _-_, _≤_, _<_}
 use mathlib.Core.Path.{_≡_, refl, ap, _∙_}
 use mathlib.Core.List.{List, [], _∷_, _++_}
 use mathlib.Core.Bool.{Bool, true, false, _&&_, not, and-false}
@@ -7,21 +7,22 @@ use native.Mathlib.Numerals.{add-one}
 use native.Mathlib.Omega.{arith}
 use borrow.Author.Tests.{leb-true, leb-false, le-leb, lt-leb, eq-eqb, ne-eqb}
 use lib.Dec.{leb, eqb}
-use lib.ListN.{length, getD, take, drop, set, length-drop}
+use lib.ListN.{length, getD, take, drop, set, length-drop, drop-of-length-le}
 use lib.Seq.{slice, slice-cons, slice-empty, take-all, take-suc, take-suc-set, drop-cons, drop-length, getD-take, length-take-le}
 use Rattle.lists.specs.Laws.{All, all-map, all-front}
-use Rattle.shares.specs.declared.Costs.{Costs}
 use Rattle.limits.specs.declared.FarmCosts.{FarmCosts}
-use Rattle.shares.specs.Model.{sendEnd, chunkFinish, finish, sum}
+use Rattle.shares.specs.Model.{sum}
 use Rattle.limits.specs.Model.{allAtMost, allAtLeast, CostsWithin}
 use Rattle.keys.specs.declared.Key.{Key}
 use Rattle.keys.specs.Model.{noKey}
+use Rattle.booking.specs.declared.Booking.{Booking}
 use Rattle.booking.specs.Best.{freeAt, chosen, units}
 use Rattle.walk.specs.declared.Job.{Job}
 use Rattle.walk.specs.declared.Busy.{Busy}
 use Rattle.walk.specs.declared.Chunk.{Chunk}
-use Rattle.walk.specs.Model.{greatest, noJob, ownCosts, finishOf, chunkAt, Span, placed, spansOf, spansOfAll, after, byStart, inOrder, fitAll}
-use Rattle.walk.specs.Chunks.{Sends, linesFrom, lines-next, lines-none}
+use Rattle.walk.specs.declared.ChunkTerms.{ChunkTerms}
+use Rattle.walk.specs.Model.{greatest, noJob, finishOf, chunkTerms, chunkAt, Span, placed, spansOf, spansOfAll, after, byStart, inOrder, fitAll}
+use Rattle.walk.specs.Chunks.{Sends, linesFrom, latestFrom, lines-next, lines-none, latest-next, latest-none}
 use Rattle.soundness.specs.declared.Figures.{Figures}
 use Rattle.soundness.specs.declared.Fit.{Fit}
 use Rattle.soundness.specs.declared.Survey.{Survey}
@@ -81,13 +82,17 @@ known-none b ks n = rw (slice-empty n ks)
 
 -- ---- The shares of a booking
 
--- shares xs sent from t on, behind s units: each at least 1, z units in all, and finished by d
-unfoldable pub keptBehind : Costs → ℕ → ℕ → ℕ → ℕ → List ℕ → Bool
-keptBehind c z d s t xs = allAtLeast 1 xs && eqb (s + sum xs) z && leb (finish c t xs) d
+-- the shares of a booking from chunk i on, behind s units, the send before it having ended at t: each at least 1, z units
+-- in all, and finished by d
+unfoldable pub keptFrom : ChunkTerms → Booking → ℕ → ℕ → ℕ → ℕ → ℕ → Bool
+keptFrom w b z d s i t =
+    allAtLeast 1 (drop i (units b)) && eqb (s + sum (drop i (units b))) z && leb (latestFrom w b i t) d
 
-pub kept-start : (c : Costs) (z d t : ℕ) (xs : List ℕ) → sharesKept c z d t xs ≡ keptBehind c z d 0 t xs
-unfolding sharesKept keptBehind
-kept-start c z d t xs = let e : 0 + sum xs ≡ sum xs = omega arith in rw e
+-- All of a job's shares are left at first.
+pub kept-start : (c : FarmCosts) (j : Job) (w : ChunkTerms) → w ≡ chunkTerms c j
+    → sharesKept c j ≡ keptFrom w (j .booking) (j .size) (j .deadline) 0 0 (j .booking .start)
+unfolding sharesKept keptFrom
+kept-start c j w q = let e : 0 + sum (units (j .booking)) ≡ sum (units (j .booking)) = omega arith in rw (q, e)
 
 max-leb : (a b d : ℕ) → a ≤ d → leb (max a b) d ≡ leb b d
 max-leb a b d h = go (leb b d) refl
@@ -96,51 +101,56 @@ max-leb a b d h = go (leb b d) refl
     go true e = le-leb (max a b) d (omega (arith, leb-true b d e))
     go false e = lt-leb (max a b) d (omega (arith, leb-false b d e))
 
-module _ (c : Costs) (z d s t : ℕ) (a : ℕ) (xs : List ℕ) where
-  kept-more : 1 ≤ a → chunkFinish c t a ≤ d → keptBehind c z d s t (a ∷ xs) ≡ keptBehind c z d (s + a) (sendEnd c t a) xs
-  unfolding keptBehind allAtLeast sum finish
-  kept-more h l =
-      let e : s + (a + sum xs) ≡ s + a + sum xs = omega arith in
-      rw (le-leb 1 a h, e, max-leb (chunkFinish c t a) (finish c (sendEnd c t a) xs) d l)
+-- A booking with a node and a share for each chunk, of which chunk i comes next.
+module _ (w : ChunkTerms) (b : Booking) (n : length (chosen b) ≡ b .count) (u : length (units b) ≡ b .count) (z d s i t : ℕ) where
+  module _ (h : i < b .count) where
+    -- Its share is followed by those after it.
+    units-next : drop i (units b) ≡ getD (b .shares) i 0 ∷ drop (i + 1) (units b)
+    units-next = rw (drop-cons (units b) i 0 (omega arith), add-one i, getD-take (b .count) (b .shares) i 0 h)
 
-  kept-small : a < 1 → keptBehind c z d s t (a ∷ xs) ≡ false
-  unfolding keptBehind allAtLeast
-  kept-small h = rw (lt-leb 1 a h)
+    -- Its share is 0.
+    pub kept-small : getD (b .shares) i 0 < 1 → keptFrom w b z d s i t ≡ false
+    unfolding keptFrom allAtLeast
+    kept-small l =
+        let e : allAtLeast 1 (drop i (units b)) ≡ false =
+        ap (allAtLeast 1) units-next ∙ rw (lt-leb 1 (getD (b .shares) i 0) l) in
+        rw e
 
-  kept-late : d < chunkFinish c t a → keptBehind c z d s t (a ∷ xs) ≡ false
-  unfolding keptBehind finish
-  kept-late h =
-      let e : leb (max (chunkFinish c t a) (finish c (sendEnd c t a) xs)) d ≡ false = lt-leb _ d (omega arith) in
-      rw (e, and-false)
+    -- the chunk that the code makes of it
+    module _ (x : Chunk) (e : x ≡ chunkAt w b i t) where
+      latest-is : latestFrom w b i t ≡ max (x .finish) (latestFrom w b (i + 1) (x .sent))
+      latest-is = rw e (latest-next w b n u i t h)
 
--- The same of what is left of an array.
-module _ (c : Costs) (z d s t : ℕ) (us : List ℕ) (i n : ℕ) (h : i < n) (k : n ≤ length us) where
-  pub shares-more : 1 ≤ getD us i 0 → chunkFinish c t (getD us i 0) ≤ d
-      → keptBehind c z d s t (slice i n us) ≡ keptBehind c z d (s + getD us i 0) (sendEnd c t (getD us i 0)) (slice (i + 1) n us)
-  shares-more l m = rw (add-one, slice-cons i n us 0 h k) (kept-more c z d s t (getD us i 0) (slice (suc i) n us) l m)
+      -- It passes.
+      pub kept-more : (a : ℕ) → a ≡ getD (b .shares) i 0 → 1 ≤ a → x .finish ≤ d
+          → keptFrom w b z d s i t ≡ keptFrom w b z d (s + a) (i + 1) (x .sent)
+      unfolding keptFrom allAtLeast sum
+      kept-more a q l m =
+          let each : allAtLeast 1 (drop i (units b)) ≡ allAtLeast 1 (drop (i + 1) (units b)) =
+          ap (allAtLeast 1) units-next ∙ rw (← q, le-leb 1 a l) in
+          let all : s + sum (drop i (units b)) ≡ s + a + sum (drop (i + 1) (units b)) =
+          omega (arith, ap sum units-next, q) in
+          let ends : leb (latestFrom w b i t) d ≡ leb (latestFrom w b (i + 1) (x .sent)) d =
+          ap (λ (k : ℕ). leb k d) latest-is ∙ max-leb (x .finish) (latestFrom w b (i + 1) (x .sent)) d m in
+          rw (each, all, ends)
 
-  pub shares-small : getD us i 0 < 1 → keptBehind c z d s t (slice i n us) ≡ false
-  shares-small l = rw (slice-cons i n us 0 h k) (kept-small c z d s t (getD us i 0) (slice (suc i) n us) l)
+      -- It is late.
+      pub kept-late : d < x .finish → keptFrom w b z d s i t ≡ false
+      unfolding keptFrom
+      kept-late l =
+          let late : leb (latestFrom w b i t) d ≡ false = lt-leb (latestFrom w b i t) d (omega (arith, latest-is)) in
+          rw (late, and-false)
 
-  pub shares-late : d < chunkFinish c t (getD us i 0) → keptBehind c z d s t (slice i n us) ≡ false
-  shares-late l = rw (slice-cons i n us 0 h k) (kept-late c z d s t (getD us i 0) (slice (suc i) n us) l)
+      -- Its send ends by its finish.
+      pub sent-finish : x .sent ≤ x .finish
+      sent-finish = rw e (omega arith)
 
--- The same of a job, with the chunk that the code makes.
-module _ (c : FarmCosts) (j : Job) (s t i : ℕ) (h : i < j .booking .count) (k : j .booking .count ≤ length (j .booking .shares)) (x : Chunk) (e : x ≡ chunkAt c j i t) where
-  pub shares-step : (a : ℕ) → a ≡ getD (j .booking .shares) i 0 → 1 ≤ a → x .finish ≤ j .deadline
-      → keptBehind (ownCosts c j) (j .size) (j .deadline) s t (slice i (j .booking .count) (j .booking .shares)) ≡ keptBehind (ownCosts c j) (j .size) (j .deadline) (s + a) (x .sent) (slice (i + 1) (j .booking .count) (j .booking .shares))
-  shares-step a q l m = rw (e, q) (shares-more (ownCosts c j) (j .size) (j .deadline) s t (j .booking .shares) i (j .booking .count) h k (rw q at l) (rw e at m))
-
-  pub shares-over : j .deadline < x .finish → keptBehind (ownCosts c j) (j .size) (j .deadline) s t (slice i (j .booking .count) (j .booking .shares)) ≡ false
-  shares-over m = shares-late (ownCosts c j) (j .size) (j .deadline) s t (j .booking .shares) i (j .booking .count) h k (rw e at m)
-
-  -- Its send ends by its finish.
-  pub sent-finish : x .sent ≤ x .finish
-  sent-finish = rw e (omega arith)
-
-pub shares-none : (c : Costs) (z d s t : ℕ) (us : List ℕ) (n : ℕ) → keptBehind c z d s t (slice n n us) ≡ eqb s z && leb t d
-unfolding keptBehind allAtLeast sum finish
-shares-none c z d s t us n = let e : s + 0 ≡ s = omega arith in rw (slice-empty n us, e)
+  -- None is left at the end.
+  pub kept-none : b .count ≤ i → keptFrom w b z d s i t ≡ eqb s z && leb t d
+  unfolding keptFrom allAtLeast sum
+  kept-none h =
+      let e : s + 0 ≡ s = omega arith in
+      rw (latest-none w b n u i t h, drop-of-length-le (units b) {i = i} (omega arith), e)
 
 -- ---- The jobs
 
@@ -167,17 +177,25 @@ all-bounded g js u e =
       compute = h .0 .compute .1;
     }) js (says-jobs g js .yields e)
 
+-- A booking of at most 64 chunks has a node and a share for each.
+pub each-stored : (b : Booking) → b .count ≤ 64 → length (b .nodes) ≡ 64 → length (b .shares) ≡ 64
+    → (length (chosen b) ≡ b .count) × (length (units b) ≡ b .count)
+each-stored b h n u =
+    (length-take-le (b .count) (b .nodes) (omega arith), length-take-le (b .count) (b .shares) (omega arith))
+
 -- Their chunks can be worked out.
 pub bounded-sends : (c : FarmCosts) (j : Job) → Bounded c j → length (j .booking .nodes) ≡ 64 → length (j .booking .shares) ≡ 64 → Sends c j
-bounded-sends c j b n u = record {
-  few = b .count;
-  nodes = length-take-le (j .booking .count) (j .booking .nodes) (omega (arith, b .count));
-  shares = length-take-le (j .booking .count) (j .booking .shares) (omega (arith, b .count));
-  known = b .nodes;
-  ends = b .ends;
-  costs = b .costs;
-  compute = b .compute;
-}
+bounded-sends c j b n u =
+    let stored = each-stored (j .booking) (b .count) n u in
+    record {
+      few = b .count;
+      nodes = stored .0;
+      shares = stored .1;
+      known = b .nodes;
+      ends = b .ends;
+      costs = b .costs;
+      compute = b .compute;
+    }
 
 -- A job's test ends at the first part that fails.
 pub job-out : (g : Figures) (j : Job) → jobWithin g j ≡ false → jobPasses g j ≡ false
@@ -189,7 +207,7 @@ unfolding jobPasses jobKept
 job-early g j h = rw (lt-leb (g .clock) (j .booking .start) h, and-false)
 
 pub job-whole : (g : Figures) (j : Job) → jobWithin g j ≡ true → g .clock ≤ j .booking .start
-    → jobPasses g j ≡ sharesKept (ownCosts (g .costs) j) (j .size) (j .deadline) (j .booking .start) (units (j .booking))
+    → jobPasses g j ≡ sharesKept (g .costs) j
 unfolding jobPasses jobKept
 job-whole g j e h = rw (e, le-leb (g .clock) (j .booking .start) h)
 
@@ -256,36 +274,46 @@ differ-none xs = rw (drop-length xs)
 
 -- ---- The chunks of a job behind the free times
 
--- Of a job's chunks those from the i-th on are left, behind `now`, the next one sent from t on: whether all fit behind `busy` is whether these fit
--- behind `now`, whatever follows.
-pub record Fitting (c : FarmCosts) (busy : Busy) (j : Job) (now : Busy) (t i : ℕ) : Type 0 where
-  pub rest : (xs : List Span) → fitAll busy (spansOf c j ++ xs) ≡ fitAll now (placed (j .booking .start) (linesFrom c j i t) ++ xs)
+-- Of a booking's chunks those from the i-th on are left, behind `now`, the send before it having ended at t: whether all
+-- fit behind `busy` is whether these fit behind `now`, whatever follows.
+pub record Fitting (w : ChunkTerms) (busy : Busy) (b : Booking) (now : Busy) (t i : ℕ) : Type 0 where
+  pub rest : (xs : List Span)
+      → fitAll busy (placed (b .start) (linesFrom w b 0 (b .start)) ++ xs) ≡ fitAll now (placed (b .start) (linesFrom w b i t) ++ xs)
 
-pub fitting-start : (c : FarmCosts) (busy : Busy) (j : Job) → Fitting c busy j busy (j .booking .start) 0
-fitting-start c busy j = record { rest = λ xs. refl }
+pub fitting-start : (w : ChunkTerms) (busy : Busy) (b : Booking) → Fitting w busy b busy (b .start) 0
+fitting-start w busy b = record { rest = λ xs. refl }
 
-module _ (c : FarmCosts) (busy : Busy) (j : Job) (now : Busy) (t i : ℕ) (u : Fitting c busy j now t i) (s : Sends c j) where
-  module _ (h : i < j .booking .count) (x : Chunk) (e : x ≡ chunkAt c j i t) where
-    fit-next : (xs : List Span)
-        → fitAll busy (spansOf c j ++ xs) ≡ leb (now .link) t && leb (freeAt (now .free) (x .node)) (j .booking .start) && fitAll (after now x) (placed (j .booking .start) (linesFrom c j (i + 1) (x .sent)) ++ xs)
+-- A job whose chunks can be worked out, what they have in common, and where the loop over them stands.
+module _ (c : FarmCosts) (busy : Busy) (j : Job) (s : Sends c j) (w : ChunkTerms) (q : w ≡ chunkTerms c j) (now : Busy) (t i : ℕ) (u : Fitting w busy (j .booking) now t i) where
+  abbrev b : Booking
+  b = j .booking
+
+  -- The lines are the job's.
+  all-rest : (xs : List Span) → fitAll busy (spansOf c j ++ xs) ≡ fitAll now (placed (b .start) (linesFrom w b i t) ++ xs)
+  all-rest xs = rw (← q) (u .rest xs)
+
+  module _ (h : i < b .count) (x : Chunk) (e : x ≡ chunkAt w b i t) where
+    next : (xs : List Span) → fitAll now (placed (b .start) (linesFrom w b i t) ++ xs)
+        ≡ leb (now .link) (x .start) && leb (freeAt (now .free) (x .node)) (b .start)
+        && fitAll (after now x) (placed (b .start) (linesFrom w b (i + 1) (x .sent)) ++ xs)
     unfolding fitAll
-    fit-next xs = u .rest xs ∙ rw (e, lines-next c j s i t h)
+    next xs = rw (e, lines-next w b (s .nodes) (s .shares) i t h)
 
     -- The next chunk fits.
-    pub fitting-more : now .link ≤ t → freeAt (now .free) (x .node) ≤ j .booking .start → Fitting c busy j (after now x) (x .sent) (i + 1)
-    fitting-more p q = record { rest = λ xs. fit-next xs ∙ rw (le-leb (now .link) t p, le-leb (freeAt (now .free) (x .node)) (j .booking .start) q) }
+    pub fitting-more : now .link ≤ x .start → freeAt (now .free) (x .node) ≤ b .start → Fitting w busy b (after now x) (x .sent) (i + 1)
+    fitting-more p f = record { rest = λ xs. u .rest xs ∙ next xs ∙ rw (le-leb (now .link) (x .start) p, le-leb (freeAt (now .free) (x .node)) (b .start) f) }
 
     -- Its send overlaps.
-    pub fitting-link : t < now .link → FitResult c busy j (record { fits = false; busy = busy })
-    fitting-link p = record { rest = λ xs. fit-next xs ∙ rw (lt-leb (now .link) t p) }
+    pub fitting-link : x .start < now .link → FitResult c busy j (record { fits = false; busy = busy })
+    fitting-link p = record { rest = λ xs. all-rest xs ∙ next xs ∙ rw (lt-leb (now .link) (x .start) p) }
 
     -- Its node is not free.
-    pub fitting-node : j .booking .start < freeAt (now .free) (x .node) → FitResult c busy j (record { fits = false; busy = busy })
-    fitting-node p = record { rest = λ xs. fit-next xs ∙ rw (lt-leb (freeAt (now .free) (x .node)) (j .booking .start) p, and-false) }
+    pub fitting-node : b .start < freeAt (now .free) (x .node) → FitResult c busy j (record { fits = false; busy = busy })
+    fitting-node p = record { rest = λ xs. all-rest xs ∙ next xs ∙ rw (lt-leb (freeAt (now .free) (x .node)) (b .start) p, and-false) }
 
   -- All chunks fit.
-  pub fitting-all : j .booking .count ≤ i → FitResult c busy j (record { fits = true; busy = now })
-  fitting-all h = record { rest = λ xs. u .rest xs ∙ rw (lines-none c j s i t h) }
+  pub fitting-all : b .count ≤ i → FitResult c busy j (record { fits = true; busy = now })
+  fitting-all h = record { rest = λ xs. all-rest xs ∙ rw (lines-none w b (s .nodes) (s .shares) i t h) }
 
 -- ---- The jobs by their starts
 

@@ -7,12 +7,12 @@ use native.Mathlib.Omega.{arith}
 use lib.ListN.{length}
 use Rattle.lists.specs.Laws.{All, Pairs, all-map, all-both, all-append, all-join, pairs-parts, pairs-join, pairs-both, pairs-across}
 use Rattle.limits.specs.declared.FarmCosts.{FarmCosts}
-use Rattle.shares.specs.Model.{sendEnd}
 use Rattle.booking.specs.Best.{freeAt, chosen, units}
 use Rattle.walk.specs.declared.Job.{Job}
 use Rattle.walk.specs.declared.Busy.{Busy}
 use Rattle.walk.specs.declared.Chunk.{Chunk}
-use Rattle.walk.specs.Model.{costsFor, Span, chunksFrom, linesOf, spansOf, spansOfAll, Includes, Apart, placed}
+use Rattle.walk.specs.declared.ChunkTerms.{ChunkTerms}
+use Rattle.walk.specs.Model.{Span, chunkTerms, chunkOn, chunksFrom, linesOf, spansOf, spansOfAll, Includes, Apart, placed}
 use Rattle.walk.specs.Chain.{Fits, Proper, Follows}
 
 -- ---- The spans of several jobs
@@ -56,54 +56,54 @@ pub placed-from : (f : ℕ) (xs : List Chunk) → All (λ (x : Span). x .from �
 placed-from f [] = tt
 placed-from f (x ∷ xs) = (refl, placed-from f xs)
 
-module _ (c : FarmCosts) (q j s f : ℕ) where
+module _ (w : ChunkTerms) (f : ℕ) where
   -- no send begins before the first
-  spans-late : (t : ℕ) (ks xs : List ℕ) → All (λ (x : Span). t ≤ x .chunk .start) (placed f (chunksFrom c q j s t ks xs))
+  spans-late : (t : ℕ) (ks xs : List ℕ) → All (λ (x : Span). t ≤ x .chunk .start) (placed f (chunksFrom w t ks xs))
   unfolding chunksFrom
   spans-late t [] [] = tt
   spans-late t [] (a ∷ xs) = tt
   spans-late t (k ∷ ks) [] = tt
-  spans-late t (k ∷ ks) (a ∷ xs) = (omega arith, all-map (λ x h. omega arith) (placed f (chunksFrom c q j s (sendEnd (costsFor c q) t a) ks xs)) (spans-late (sendEnd (costsFor c q) t a) ks xs))
+  spans-late t (k ∷ ks) (a ∷ xs) = (omega arith, all-map (λ x h. omega arith) (placed f (chunksFrom w (chunkOn w t k a .sent) ks xs)) (spans-late (chunkOn w t k a .sent) ks xs))
 
   -- each send begins after the earlier ones
-  spans-tile : (t : ℕ) (ks xs : List ℕ) → Pairs (λ (x y : Span). x .chunk .sent ≤ y .chunk .start) (placed f (chunksFrom c q j s t ks xs))
+  spans-tile : (t : ℕ) (ks xs : List ℕ) → Pairs (λ (x y : Span). x .chunk .sent ≤ y .chunk .start) (placed f (chunksFrom w t ks xs))
   unfolding chunksFrom
   spans-tile t [] [] = tt
   spans-tile t [] (a ∷ xs) = tt
   spans-tile t (k ∷ ks) [] = tt
-  spans-tile t (k ∷ ks) (a ∷ xs) = (spans-late (sendEnd (costsFor c q) t a) ks xs, spans-tile (sendEnd (costsFor c q) t a) ks xs)
+  spans-tile t (k ∷ ks) (a ∷ xs) = (spans-late (chunkOn w t k a .sent) ks xs, spans-tile (chunkOn w t k a .sent) ks xs)
 
   -- A tick not before the first send and in none of them is after them all.
-  spans-clear : (z t : ℕ) (ks xs : List ℕ) → t ≤ z → All (λ (x : Span). Includes (x .chunk .start) (x .chunk .sent) z → ⊥) (placed f (chunksFrom c q j s t ks xs))
-      → All (λ (x : Span). x .chunk .sent ≤ z) (placed f (chunksFrom c q j s t ks xs))
+  spans-clear : (z t : ℕ) (ks xs : List ℕ) → t ≤ z → All (λ (x : Span). Includes (x .chunk .start) (x .chunk .sent) z → ⊥) (placed f (chunksFrom w t ks xs))
+      → All (λ (x : Span). x .chunk .sent ≤ z) (placed f (chunksFrom w t ks xs))
   unfolding chunksFrom
   spans-clear z t [] [] h n = tt
   spans-clear z t [] (a ∷ xs) h n = tt
   spans-clear z t (k ∷ ks) [] h n = tt
   spans-clear z t (k ∷ ks) (a ∷ xs) h n =
-      let out : sendEnd (costsFor c q) t a ≤ z = elim (decLe (sendEnd (costsFor c q) t a) z) [ yes d ↦ d | no d ↦ absurd (n .0 (h, omega arith)) ] in
-      (out, spans-clear z (sendEnd (costsFor c q) t a) ks xs out (n .1))
+      let out : chunkOn w t k a .sent ≤ z = elim (decLe (chunkOn w t k a .sent) z) [ yes d ↦ d | no d ↦ absurd (n .0 (h, omega arith)) ] in
+      (out, spans-clear z (chunkOn w t k a .sent) ks xs out (n .1))
 
   -- where there is a first span, its send begins at t
-  pub spans-first : (b : Busy) (t : ℕ) (ks xs : List ℕ) → length ks ≡ length xs → 1 ≤ length ks → All (Fits b) (placed f (chunksFrom c q j s t ks xs)) → b .link ≤ t
+  pub spans-first : (b : Busy) (t : ℕ) (ks xs : List ℕ) → length ks ≡ length xs → 1 ≤ length ks → All (Fits b) (placed f (chunksFrom w t ks xs)) → b .link ≤ t
   unfolding chunksFrom
   spans-first b t [] xs e h n = absurd (omega arith)
   spans-first b t (k ∷ ks) [] e h n = absurd (omega arith)
   spans-first b t (k ∷ ks) (a ∷ xs) e h n = n .0 .0
 
   -- each node is free by f
-  pub spans-free : (b : Busy) (t : ℕ) (ks xs : List ℕ) → length ks ≡ length xs → All (Fits b) (placed f (chunksFrom c q j s t ks xs)) → All (λ (k : ℕ). freeAt (b .free) k ≤ f) ks
+  pub spans-free : (b : Busy) (t : ℕ) (ks xs : List ℕ) → length ks ≡ length xs → All (Fits b) (placed f (chunksFrom w t ks xs)) → All (λ (k : ℕ). freeAt (b .free) k ≤ f) ks
   unfolding chunksFrom
   spans-free b t [] xs e n = tt
   spans-free b t (k ∷ ks) [] e n = absurd (omega arith)
-  spans-free b t (k ∷ ks) (a ∷ xs) e n = (n .0 .1, spans-free b (sendEnd (costsFor c q) t a) ks xs (omega arith) (n .1))
+  spans-free b t (k ∷ ks) (a ∷ xs) e n = (n .0 .1, spans-free b (chunkOn w t k a .sent) ks xs (omega arith) (n .1))
 
-  pub spans-fit : (b : Busy) (t : ℕ) (ks xs : List ℕ) → b .link ≤ t → All (λ (k : ℕ). freeAt (b .free) k ≤ f) ks → All (Fits b) (placed f (chunksFrom c q j s t ks xs))
+  pub spans-fit : (b : Busy) (t : ℕ) (ks xs : List ℕ) → b .link ≤ t → All (λ (k : ℕ). freeAt (b .free) k ≤ f) ks → All (Fits b) (placed f (chunksFrom w t ks xs))
   unfolding chunksFrom
   spans-fit b t [] [] h n = tt
   spans-fit b t [] (a ∷ xs) h n = tt
   spans-fit b t (k ∷ ks) [] h n = tt
-  spans-fit b t (k ∷ ks) (a ∷ xs) h n = ((h, n .0), spans-fit b (sendEnd (costsFor c q) t a) ks xs (omega arith) (n .1))
+  spans-fit b t (k ∷ ks) (a ∷ xs) h n = ((h, n .0), spans-fit b (chunkOn w t k a .sent) ks xs (omega arith) (n .1))
 
 -- ---- From the pairs to the sweep
 
@@ -116,7 +116,7 @@ node-after x y p h a e =
 job-follows : (c : FarmCosts) (j : Job) → All (Proper 64) (spansOf c j) → Pairs Apart (spansOf c j) → Pairs Follows (spansOf c j)
 job-follows c j p a =
     let s = j .booking .start in
-    let tile = spans-tile c (j .compute) (j .number) (j .show) s s (chosen (j .booking)) (units (j .booking)) in
+    let tile = spans-tile (chunkTerms c j) s s (chosen (j .booking)) (units (j .booking)) in
     let each : All (λ (x : Span). (x .from ≡ s) × Proper 64 x) (spansOf c j) = all-both (λ x e q. (e, q)) (spansOf c j) (placed-from s (linesOf c j)) p in
     pairs-both (λ x y h k b l. record { send = l; node = node-after x y (k .1) (omega arith) b }) (spansOf c j) each a tile
 
@@ -125,22 +125,22 @@ abbrev Begins : ℕ → List Span → Type 0
 Begins z [] = Unit
 Begins z (y ∷ ys) = y .chunk .start ≡ z
 
-job-begins : (c : FarmCosts) (q j s f t : ℕ) (ks xs : List ℕ) → Begins t (placed f (chunksFrom c q j s t ks xs))
+job-begins : (w : ChunkTerms) (f t : ℕ) (ks xs : List ℕ) → Begins t (placed f (chunksFrom w t ks xs))
 unfolding chunksFrom
-job-begins c q j s f t [] [] = tt
-job-begins c q j s f t [] (a ∷ xs) = tt
-job-begins c q j s f t (k ∷ ks) [] = tt
-job-begins c q j s f t (k ∷ ks) (a ∷ xs) = refl
+job-begins w f t [] [] = tt
+job-begins w f t [] (a ∷ xs) = tt
+job-begins w f t (k ∷ ks) [] = tt
+job-begins w f t (k ∷ ks) (a ∷ xs) = refl
 
 -- The sends of a job that starts no later than z, and whose spans are apart from some that begin with a send at z, have ended by z.
-ends-before : (c : FarmCosts) (q j s f z t : ℕ) (ks xs : List ℕ) (ys : List Span) → t ≤ z → Begins z ys → All (λ (y : Span). z ≤ y .chunk .start) ys → All (Proper 64) ys
-    → All (λ (x : Span). All (Apart x) ys) (placed f (chunksFrom c q j s t ks xs))
-    → All (λ (x : Span). All (λ (y : Span). x .chunk .sent ≤ y .chunk .start) ys) (placed f (chunksFrom c q j s t ks xs))
-ends-before c q j s f z t ks xs [] h e l p a = all-map (λ x n. tt) (placed f (chunksFrom c q j s t ks xs)) a
-ends-before c q j s f z t ks xs (y ∷ ys) h e l p a =
-    let clear : All (λ (x : Span). Includes (x .chunk .start) (x .chunk .sent) z → ⊥) (placed f (chunksFrom c q j s t ks xs)) =
-    all-map (λ x n i. n .0 .send z i (omega arith, omega (arith, p .0 .sends))) (placed f (chunksFrom c q j s t ks xs)) a in
-    all-map (λ x m. (omega arith, all-map (λ w n. omega arith) ys (l .1))) (placed f (chunksFrom c q j s t ks xs)) (spans-clear c q j s f z t ks xs h clear)
+ends-before : (w : ChunkTerms) (f z t : ℕ) (ks xs : List ℕ) (ys : List Span) → t ≤ z → Begins z ys → All (λ (y : Span). z ≤ y .chunk .start) ys → All (Proper 64) ys
+    → All (λ (x : Span). All (Apart x) ys) (placed f (chunksFrom w t ks xs))
+    → All (λ (x : Span). All (λ (y : Span). x .chunk .sent ≤ y .chunk .start) ys) (placed f (chunksFrom w t ks xs))
+ends-before w f z t ks xs [] h e l p a = all-map (λ x n. tt) (placed f (chunksFrom w t ks xs)) a
+ends-before w f z t ks xs (y ∷ ys) h e l p a =
+    let clear : All (λ (x : Span). Includes (x .chunk .start) (x .chunk .sent) z → ⊥) (placed f (chunksFrom w t ks xs)) =
+    all-map (λ x n i. n .0 .send z i (omega arith, omega (arith, p .0 .sends))) (placed f (chunksFrom w t ks xs)) a in
+    all-map (λ x m. (omega arith, all-map (λ v n. omega arith) ys (l .1))) (placed f (chunksFrom w t ks xs)) (spans-clear w f z t ks xs h clear)
 
 -- The spans of a job that starts no earlier, apart from those of the first, come after them.
 later-job : (c : FarmCosts) (i j : Job) → i .booking .start ≤ j .booking .start → All (Proper 64) (spansOf c j) → All (λ (x : Span). All (Apart x) (spansOf c j)) (spansOf c i)
@@ -148,9 +148,9 @@ later-job : (c : FarmCosts) (i j : Job) → i .booking .start ≤ j .booking .st
 later-job c i j h p a =
     let s = i .booking .start in
     let t = j .booking .start in
-    let late = spans-late c (j .compute) (j .number) (j .show) t t (chosen (j .booking)) (units (j .booking)) in
-    let first = job-begins c (j .compute) (j .number) (j .show) t t (chosen (j .booking)) (units (j .booking)) in
-    let sends = ends-before c (i .compute) (i .number) (i .show) s t s (chosen (i .booking)) (units (i .booking)) (spansOf c j) h first late p a in
+    let late = spans-late (chunkTerms c j) t t (chosen (j .booking)) (units (j .booking)) in
+    let first = job-begins (chunkTerms c j) t t (chosen (j .booking)) (units (j .booking)) in
+    let sends = ends-before (chunkTerms c i) s t s (chosen (i .booking)) (units (i .booking)) (spansOf c j) h first late p a in
     let xs : All (λ (x : Span). (x .from ≡ s) × All (Apart x) (spansOf c j)) (spansOf c i) = all-both (λ x e q. (e, q)) (spansOf c i) (placed-from s (linesOf c i)) a in
     let ys : All (λ (y : Span). (y .from ≡ t) × Proper 64 y) (spansOf c j) = all-both (λ y e q. (e, q)) (spansOf c j) (placed-from t (linesOf c j)) p in
     all-both (λ x k l. one x (k .0) ys (k .1) l) (spansOf c i) xs sends

@@ -5,8 +5,7 @@ ghost use mathlib.Core.Path.{_≡_};
 ghost use Prim.Native.Nat.{_≤_};
 ghost use lib.ListN.{take};
 ghost use Rattle.lists.specs.Laws.{All};
-ghost use Rattle.booking.specs.Best.{units};
-ghost use Rattle.walk.specs.Model.{ownCosts, byStart, spansOfAll, inOrder, fitAll};
+ghost use Rattle.walk.specs.Model.{byStart, spansOfAll, inOrder, fitAll};
 ghost use Rattle.soundness.specs.Model.{noneOf, allDiffer, nodesKnown, sharesKept, jobWithin, jobPasses, waitingPass};
 ghost use Rattle.soundness.specs.Sound.{Usable};
 ghost use Rattle.soundness.specs.Steps.{NoOverflow, Bounded, Inside, Surveys, FitResult};
@@ -23,6 +22,7 @@ use walk::Busy;
 use walk::Job;
 use walk::Time;
 use walk::chunk_on;
+use walk::chunk_terms;
 use walk::keys_by;
 
 // What each waiting job is held against.
@@ -92,34 +92,27 @@ fn job_within(figures: Figures, job: Job) -> bool
 // Whether the shares are at least 1 each and add up to the size, and each chunk finishes by the deadline.
 fn shares_kept(costs: FarmCosts, job: Job) -> bool
     requires { ⌜ NoOverflow costs job ⌝ }
-    ensures { λ r. ⌜ r ≡ sharesKept (ownCosts costs job) (job .size) (job .deadline) (job .booking .start) (units (job .booking)) ⌝ }
+    ensures { λ r. ⌜ r ≡ sharesKept costs job ⌝ }
 {
     let b = job.booking;
+    let terms = chunk_terms(costs, job);
     let mut total: u64 = 0;
-    let mut from = b.start;
+    let mut last = b.start;
     let mut i = 0;
     while i < b.count {
         let units = wide32(b.shares[i]);
         if units < 1 {
             return false;
         }
-        let chunk = chunk_on(
-            costs,
-            job.compute,
-            job.number,
-            job.show,
-            b.nodes[i],
-            b.shares[i],
-            from,
-        );
+        let chunk = chunk_on(terms, b.nodes[i], b.shares[i], last);
         if job.deadline < chunk.finish {
             return false;
         }
         total += units;
-        from = chunk.sent;
+        last = chunk.sent;
         i += 1;
     }
-    and(total == wide32(job.size), from <= job.deadline)
+    and(total == wide32(job.size), last <= job.deadline)
 }
 
 fn job_passes(figures: Figures, job: Job) -> bool
@@ -198,22 +191,15 @@ fn job_fits(costs: FarmCosts, busy: Busy, job: Job) -> Fit
     ensures { λ r. ⌜ FitResult costs busy job r ⌝ }
 {
     let b = job.booking;
+    let terms = chunk_terms(costs, job);
     let mut link = busy.link;
     let mut free = busy.free;
-    let mut from = b.start;
+    let mut last = b.start;
     let mut i = 0;
     while i < b.count {
-        let chunk = chunk_on(
-            costs,
-            job.compute,
-            job.number,
-            job.show,
-            b.nodes[i],
-            b.shares[i],
-            from,
-        );
+        let chunk = chunk_on(terms, b.nodes[i], b.shares[i], last);
         let place = chunk.node as usize - 1;
-        if from < link {
+        if chunk.start < link {
             return Fit { fits: false, busy };
         }
         if b.start < free[place] {
@@ -221,7 +207,7 @@ fn job_fits(costs: FarmCosts, busy: Busy, job: Job) -> Fit
         }
         free[place] = chunk.finish;
         link = chunk.sent;
-        from = chunk.sent;
+        last = chunk.sent;
         i += 1;
     }
     Fit {

@@ -7,13 +7,14 @@ use lib.ListN.{length, getD, take, drop, set, length-append, length-drop, length
 use lib.Seq.{take-suc-set, drop-set-lt, drop-drop, length-take-le, take-at, drop-at}
 use Rattle.lists.specs.Laws.{All, all-front, image-all, map-join, front-next, front-none}
 use Rattle.limits.specs.declared.FarmCosts.{FarmCosts}
-use Rattle.shares.specs.Model.{sendEnd}
 use Rattle.keys.specs.declared.Key.{Key}
 use Rattle.keys.specs.Model.{noKey}
 use Rattle.walk.specs.declared.Job.{Job}
 use Rattle.walk.specs.declared.Chunk.{Chunk}
-use Rattle.walk.specs.Model.{noJob, costsFor, chunkAt, chunksFrom, linesOf, inOrder}
+use Rattle.walk.specs.declared.ChunkTerms.{ChunkTerms}
+use Rattle.walk.specs.Model.{noJob, chunkTerms, chunkOn, chunkAt, chunksFrom, linesOf, inOrder}
 use Rattle.walk.specs.Chunks.{Sends, linesFrom, lines-none, lines-next}
+use Rattle.booking.specs.declared.Booking.{Booking}
 use Rattle.booking.specs.Best.{chosen, units}
 use Rattle.timetable.specs.Model.{linesOfAll, rowOf}
 use Rattle.timetable.specs.BeginSteps.{chunks}
@@ -32,38 +33,44 @@ filled-next l at i e x xs ys q h k =
 pub filled-all : {A : Type 0} (l : List A) (e : ℕ) → Filled l e [] e ≡ l
 filled-all l e = take-append-drop e l
 
-module _ (c : FarmCosts) (j : Job) (s : Sends c j) (at : ℕ) where
+-- A booking with a node and a share for each chunk.
+module _ (w : ChunkTerms) (b : Booking) (n : length (chosen b) ≡ b .count) (u : length (units b) ≡ b .count) (at : ℕ) where
   abbrev end : ℕ
-  end = at + j .booking .count
+  end = at + b .count
 
-  -- The job's lines, one further: as records, and as rows.
-  pub job-next : (l : List Chunk) → end ≤ length l → (i t : ℕ) → i < j .booking .count
-      → Filled l (at + i) (linesFrom c j i t) end ≡ Filled (set l (at + i) (chunkAt c j i t)) (at + (i + 1)) (linesFrom c j (i + 1) (chunkAt c j i t .sent)) end
-  job-next l k i t h = filled-next l at i end (chunkAt c j i t) (linesFrom c j (i + 1) (chunkAt c j i t .sent)) (linesFrom c j i t) (lines-next c j s i t h) (omega arith) k
+  -- Its lines, one further: as records, and as rows.
+  pub job-next : (l : List Chunk) → end ≤ length l → (i t : ℕ) → i < b .count
+      → Filled l (at + i) (linesFrom w b i t) end
+      ≡ Filled (set l (at + i) (chunkAt w b i t)) (at + (i + 1)) (linesFrom w b (i + 1) (chunkAt w b i t .sent)) end
+  job-next l k i t h =
+      let rest = linesFrom w b (i + 1) (chunkAt w b i t .sent) in
+      filled-next l at i end (chunkAt w b i t) rest (linesFrom w b i t) (lines-next w b n u i t h) (omega arith) k
 
-  pub row-next : (l : List (List ℕ)) → end ≤ length l → (i t : ℕ) → i < j .booking .count
-      → Filled l (at + i) (map rowOf (linesFrom c j i t)) end ≡ Filled (set l (at + i) (rowOf (chunkAt c j i t))) (at + (i + 1)) (map rowOf (linesFrom c j (i + 1) (chunkAt c j i t .sent))) end
+  pub row-next : (l : List (List ℕ)) → end ≤ length l → (i t : ℕ) → i < b .count
+      → Filled l (at + i) (map rowOf (linesFrom w b i t)) end
+      ≡ Filled (set l (at + i) (rowOf (chunkAt w b i t))) (at + (i + 1)) (map rowOf (linesFrom w b (i + 1) (chunkAt w b i t .sent))) end
   row-next l k i t h =
-      filled-next l at i end (rowOf (chunkAt c j i t)) (map rowOf (linesFrom c j (i + 1) (chunkAt c j i t .sent))) (map rowOf (linesFrom c j i t)) (ap (map rowOf) (lines-next c j s i t h)) (omega arith) k
+      let rest = map rowOf (linesFrom w b (i + 1) (chunkAt w b i t .sent)) in
+      filled-next l at i end (rowOf (chunkAt w b i t)) rest (map rowOf (linesFrom w b i t)) (ap (map rowOf) (lines-next w b n u i t h)) (omega arith) k
 
-  pub job-written : (l : List Chunk) (t : ℕ) → Filled l end (linesFrom c j (j .booking .count) t) end ≡ l
-  job-written l t = ap (λ (xs : List Chunk). Filled l end xs end) (lines-none c j s (j .booking .count) t (omega arith)) ∙ filled-all l end
+  pub job-written : (l : List Chunk) (t : ℕ) → Filled l end (linesFrom w b (b .count) t) end ≡ l
+  job-written l t = ap (λ (xs : List Chunk). Filled l end xs end) (lines-none w b n u (b .count) t (omega arith)) ∙ filled-all l end
 
-  pub row-written : (l : List (List ℕ)) (i t : ℕ) → j .booking .count ≡ i → Filled l (at + i) (map rowOf (linesFrom c j i t)) end ≡ l
-  row-written l i t e = rw (← e, lines-none c j s (j .booking .count) t (omega arith)) (filled-all l end)
+  pub row-written : (l : List (List ℕ)) (i t : ℕ) → b .count ≡ i → Filled l (at + i) (map rowOf (linesFrom w b i t)) end ≡ l
+  row-written l i t e = rw (← e, lines-none w b n u (b .count) t (omega arith)) (filled-all l end)
 
 -- ---- Several jobs
 
 -- A job's lines are as many as its chunks.
-pub lines-length : (c : FarmCosts) (p n s t : ℕ) (ks xs : List ℕ) → length ks ≡ length xs → length (chunksFrom c p n s t ks xs) ≡ length xs
+pub lines-length : (w : ChunkTerms) (t : ℕ) (ks xs : List ℕ) → length ks ≡ length xs → length (chunksFrom w t ks xs) ≡ length xs
 unfolding chunksFrom
-lines-length c p n s t [] [] e = refl
-lines-length c p n s t [] (a ∷ xs) e = absurd (omega arith)
-lines-length c p n s t (k ∷ ks) [] e = absurd (omega arith)
-lines-length c p n s t (k ∷ ks) (a ∷ xs) e = ap suc (lines-length c p n s (sendEnd (costsFor c p) t a) ks xs (omega arith))
+lines-length w t [] [] e = refl
+lines-length w t [] (a ∷ xs) e = absurd (omega arith)
+lines-length w t (k ∷ ks) [] e = absurd (omega arith)
+lines-length w t (k ∷ ks) (a ∷ xs) e = ap suc (lines-length w (chunkOn w t k a .sent) ks xs (omega arith))
 
 pub job-lines : (c : FarmCosts) (j : Job) → Sends c j → length (linesOf c j) ≡ j .booking .count
-job-lines c j s = lines-length c (j .compute) (j .number) (j .show) (j .booking .start) (chosen (j .booking)) (units (j .booking)) (s .nodes ∙ sym (s .shares)) ∙ s .shares
+job-lines c j s = lines-length (chunkTerms c j) (j .booking .start) (chosen (j .booking)) (units (j .booking)) (s .nodes ∙ sym (s .shares)) ∙ s .shares
 
 -- So are those of several jobs.
 pub all-lines : (c : FarmCosts) (js : List Job) → All (Sends c) js → length (linesOfAll c js) ≡ chunks js

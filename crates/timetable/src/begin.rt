@@ -14,6 +14,7 @@ use numbers::less;
 use walk::Busy;
 use walk::Job;
 use walk::chunk_on;
+use walk::chunk_terms;
 use walk::occupied;
 
 // What jobs leave once they have begun: the free times, and the held ticks.
@@ -82,20 +83,13 @@ pub fn raise(costs: FarmCosts, job: Job, held: &mut [u64; 32])
     let booking = job.booking;
     let count = booking.count;
     let place = (job.show - 1) as usize;
-    let mut time = booking.start;
+    let terms = chunk_terms(costs, job);
+    let mut last = booking.start;
     let mut i = 0;
     while i < count {
-        let chunk = chunk_on(
-            costs,
-            job.compute,
-            job.number,
-            job.show,
-            booking.nodes[i],
-            booking.shares[i],
-            time,
-        );
+        let chunk = chunk_on(terms, booking.nodes[i], booking.shares[i], last);
         held[place] = held[place] + less(chunk.finish, chunk.start);
-        time = chunk.sent;
+        last = chunk.sent;
         i += 1;
     }
 }

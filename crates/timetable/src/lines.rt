@@ -15,6 +15,7 @@ use walk::Chunk;
 use walk::Job;
 use walk::chunk_at;
 use walk::chunk_on;
+use walk::chunk_terms;
 
 fn start_of(job: Job) -> u64
     ensures { λ r. ⌜ r ≡ job .booking .start ⌝ }
@@ -36,12 +37,13 @@ fn write_job(out: &mut [Chunk], at: usize, costs: FarmCosts, job: Job)
     ensures { λ _. ⌜ now (out .exit) ≡ take at (now (out .entry)) ++ (linesOf costs job ++ drop (at + job .booking .count) (now (out .entry))) ⌝ }
 {
     let count = count_of(job);
-    let mut from = start_of(job);
+    let terms = chunk_terms(costs, job);
+    let mut last = start_of(job);
     let mut i: usize = 0;
     while i < count {
-        let c = chunk_at(costs, job, i, from);
+        let c = chunk_at(terms, job, i, last);
         out[at + i] = c;
-        from = c.sent;
+        last = c.sent;
         i = i + 1;
     }
 }
@@ -69,18 +71,11 @@ fn write_row_job(rows: &mut [[u64; 8]], at: usize, costs: FarmCosts, job: Job)
 {
     let booking = job.booking;
     let count = booking.count;
-    let mut from = booking.start;
+    let terms = chunk_terms(costs, job);
+    let mut last = booking.start;
     let mut i: usize = 0;
     while i < count {
-        let c = chunk_on(
-            costs,
-            job.compute,
-            job.number,
-            job.show,
-            booking.nodes[i],
-            booking.shares[i],
-            from,
-        );
+        let c = chunk_on(terms, booking.nodes[i], booking.shares[i], last);
         rows[at + i] = [
             c.job,
             c.show,
@@ -91,7 +86,7 @@ fn write_row_job(rows: &mut [[u64; 8]], at: usize, costs: FarmCosts, job: Job)
             c.finish,
             c.computed,
         ];
-        from = c.sent;
+        last = c.sent;
         i += 1;
     }
 }

@@ -15,13 +15,14 @@ use Rattle.lists.specs.Laws.{All, Pairs, all-map, all-both, all-image, pairs-ma
 use Rattle.limits.specs.Tests.{and-both}
 use Rattle.shares.specs.declared.Costs.{Costs}
 use Rattle.limits.specs.declared.FarmCosts.{FarmCosts}
-use Rattle.shares.specs.Model.{sendEnd, finish}
+use Rattle.shares.specs.Model.{sendEnd}
 use Rattle.shares.specs.Lists.{Positive}
 use Rattle.booking.specs.Best.{freeAt, chosen, units}
 use Rattle.walk.specs.declared.Job.{Job}
 use Rattle.walk.specs.declared.Busy.{Busy}
 use Rattle.walk.specs.declared.Chunk.{Chunk}
-use Rattle.walk.specs.Model.{costsFor, Span, chunksFrom, linesOf, finishOf, placed, spansOf, Between, Apart, after, afters, fitAll}
+use Rattle.walk.specs.declared.ChunkTerms.{ChunkTerms}
+use Rattle.walk.specs.Model.{costsFor, Span, chunkTerms, chunkOn, chunksFrom, linesOf, latest, finishOf, placed, spansOf, Between, Apart, after, afters, fitAll}
 
 -- ---- Spans in a row
 
@@ -143,35 +144,43 @@ chain-apart b xs l p h = pairs-map follows-apart xs (chain-follows b xs l p .0 h
 send-takes : (c : Costs) (t a : ℕ) → 1 ≤ c .send → 1 ≤ a → t < sendEnd c t a
 send-takes c t a s h = omega (arith, mul-le-mul-right (c .send) h)
 
-chunks-proper : (c : FarmCosts) (q : ℕ) → 1 ≤ c .send → (n j s f t : ℕ) (ks xs : List ℕ) → f ≤ t → All (λ (k : ℕ). Between 1 k n) ks → Positive xs
-    → All (λ (x : Chunk). Proper n (record { from = f; chunk = x })) (chunksFrom c q j s t ks xs)
+chunks-proper : (w : ChunkTerms) → 1 ≤ w .costs .send → (n f t : ℕ) (ks xs : List ℕ) → f ≤ t → All (λ (k : ℕ). Between 1 k n) ks → Positive xs
+    → All (λ (x : Chunk). Proper n (record { from = f; chunk = x })) (chunksFrom w t ks xs)
 unfolding chunksFrom
-chunks-proper c q m n j s f t [] [] h k p = tt
-chunks-proper c q m n j s f t [] (a ∷ xs) h k p = tt
-chunks-proper c q m n j s f t (i ∷ ks) [] h k p = tt
-chunks-proper c q m n j s f t (i ∷ ks) (a ∷ xs) h k p =
-    let z = send-takes (costsFor c q) t a m (p .0) in
-    (record { node = k .0; begins = h; sends = z; ends = omega arith }, chunks-proper c q m n j s f (sendEnd (costsFor c q) t a) ks xs (omega arith) (k .1) (p .1))
+chunks-proper w m n f t [] [] h k p = tt
+chunks-proper w m n f t [] (a ∷ xs) h k p = tt
+chunks-proper w m n f t (i ∷ ks) [] h k p = tt
+chunks-proper w m n f t (i ∷ ks) (a ∷ xs) h k p =
+    let z = send-takes (costsFor (w .costs) (w .compute)) t a m (p .0) in
+    (record { node = k .0; begins = h; sends = z; ends = omega arith }, chunks-proper w m n f (chunkOn w t i a .sent) ks xs (omega arith) (k .1) (p .1))
 
 -- The spans of a job are proper.
 pub job-proper : (c : FarmCosts) (n : ℕ) (j : Job) → 1 ≤ c .send → All (λ (k : ℕ). Between 1 k n) (chosen (j .booking)) → Positive (units (j .booking)) → All (Proper n) (spansOf c j)
 job-proper c n j m k p =
     all-image (Proper n) (λ (x : Chunk). record { from = j .booking .start; chunk = x }) (linesOf c j)
-    (chunks-proper c (j .compute) m n (j .number) (j .show) (j .booking .start) (j .booking .start) (chosen (j .booking)) (units (j .booking)) (omega arith) k p)
+    (chunks-proper (chunkTerms c j) m n (j .booking .start) (j .booking .start) (chosen (j .booking)) (units (j .booking)) (omega arith) k p)
 
--- The finish of each chunk is at most the finish of them all.
-pub chunks-finish : (c : FarmCosts) (q j s t : ℕ) (ks xs : List ℕ) → All (λ (x : Chunk). x .finish ≤ finish (costsFor c q) t xs) (chunksFrom c q j s t ks xs)
-unfolding chunksFrom finish
-chunks-finish c q j s t [] [] = tt
-chunks-finish c q j s t [] (a ∷ xs) = tt
-chunks-finish c q j s t (i ∷ ks) [] = tt
-chunks-finish c q j s t (i ∷ ks) (a ∷ xs) = (omega arith, all-map (λ x h. omega arith) (chunksFrom c q j s (sendEnd (costsFor c q) t a) ks xs) (chunks-finish c q j s (sendEnd (costsFor c q) t a) ks xs))
+-- The finish of each chunk is at most the latest of them all.
+pub chunks-finish : (t : ℕ) (xs : List Chunk) → All (λ (x : Chunk). x .finish ≤ latest t xs) xs
+unfolding latest
+chunks-finish t [] = tt
+chunks-finish t (x ∷ xs) = (omega arith, all-map (λ y h. omega arith) xs (chunks-finish t xs))
 
 -- No span of a job ends after the job's finish.
 pub job-finish : (c : FarmCosts) (j : Job) → All (λ (x : Span). x .chunk .finish ≤ finishOf c j) (spansOf c j)
 job-finish c j =
     all-image (λ (x : Span). x .chunk .finish ≤ finishOf c j) (λ (x : Chunk). record { from = j .booking .start; chunk = x }) (linesOf c j)
-    (chunks-finish c (j .compute) (j .number) (j .show) (j .booking .start) (chosen (j .booking)) (units (j .booking)))
+    (chunks-finish (j .booking .start) (linesOf c j))
+
+-- A job with a chunk finishes after its start.
+pub finish-after-start : (c : FarmCosts) (n : ℕ) (j : Job) → All (Proper n) (spansOf c j) → 1 ≤ length (linesOf c j)
+    → j .booking .start < finishOf c j
+unfolding latest
+finish-after-start c n j = go (j .booking .start) (linesOf c j)
+  where
+    go : (f : ℕ) (xs : List Chunk) → All (Proper n) (placed f xs) → 1 ≤ length xs → f < latest f xs
+    go f [] p h = absurd (omega arith)
+    go f (x ∷ xs) p h = omega (arith, p .0 .begins, p .0 .sends, p .0 .ends)
 
 placed-chunks : (f : ℕ) (xs : List Chunk) → map (λ (x : Span). x .chunk) (placed f xs) ≡ xs
 placed-chunks f [] = refl

@@ -9,7 +9,7 @@ use lib.Dec.{leb}
 use lib.ListN.{length, getD, set}
 use Rattle.shares.specs.declared.Costs.{Costs}
 use Rattle.limits.specs.declared.FarmCosts.{FarmCosts}
-use Rattle.shares.specs.Model.{sendEnd, chunkFinish, finish}
+use Rattle.shares.specs.Model.{sendEnd, chunkFinish}
 use Rattle.keys.specs.declared.Key.{Key}
 use Rattle.keys.specs.Model.{sortKeys}
 use Rattle.booking.specs.declared.Request.{Request}
@@ -20,6 +20,7 @@ use Rattle.walk.specs.declared.Job.{Job}
 use Rattle.walk.specs.declared.Terms.{Terms}
 use Rattle.walk.specs.declared.Busy.{Busy}
 use Rattle.walk.specs.declared.Chunk.{Chunk}
+use Rattle.walk.specs.declared.ChunkTerms.{ChunkTerms}
 use Rattle.walk.specs.declared.Time.{Time}
 use Rattle.walk.specs.declared.Time.the-variants.{Deadline, Start}
 
@@ -55,33 +56,42 @@ ownCosts c j = costsFor c (j .compute)
 abbrev pub computeEnd : FarmCosts → ℕ → ℕ → ℕ → ℕ
 computeEnd c p t a = sendEnd (costsFor c p) t a + (c .nodesetup + a * p)
 
--- the chunk of `a` units on node k, for job j of show s whose units take p ticks to compute, its send beginning at t
-abbrev pub chunkOn : FarmCosts → ℕ → ℕ → ℕ → ℕ → ℕ → ℕ → Chunk
-chunkOn c p j s t k a = record {
-  job = j;
-  show = s;
+-- what all chunks of a job have in common
+abbrev pub chunkTerms : FarmCosts → Job → ChunkTerms
+chunkTerms c j = record { costs = c; compute = j .compute; job = j .number; show = j .show }
+
+-- where the send of a chunk begins, the one before it having ended at t: at t, since sends run back to back. Before a
+-- job's first chunk t is the job's start. This is said here and nowhere else
+abbrev pub sendStart : ℕ → ℕ
+sendStart t = t
+
+-- the chunk of `a` units on node k, the send before it having ended at t
+abbrev pub chunkOn : ChunkTerms → ℕ → ℕ → ℕ → Chunk
+chunkOn w t k a = record {
+  job = w .job;
+  show = w .show;
   node = k;
   units = a;
-  start = t;
-  sent = sendEnd (costsFor c p) t a;
-  finish = chunkFinish (costsFor c p) t a;
-  computed = computeEnd c p t a;
+  start = sendStart t;
+  sent = sendEnd (costsFor (w .costs) (w .compute)) (sendStart t) a;
+  finish = chunkFinish (costsFor (w .costs) (w .compute)) (sendStart t) a;
+  computed = computeEnd (w .costs) (w .compute) (sendStart t) a;
 }
 
--- chunk i of a job, its send beginning at t
-abbrev pub chunkAt : FarmCosts → Job → ℕ → ℕ → Chunk
-chunkAt c j i t = chunkOn c (j .compute) (j .number) (j .show) t (getD (j .booking .nodes) i 0) (getD (j .booking .shares) i 0)
+-- chunk i of a booking, the send before it having ended at t
+abbrev pub chunkAt : ChunkTerms → Booking → ℕ → ℕ → Chunk
+chunkAt w b i t = chunkOn w t (getD (b .nodes) i 0) (getD (b .shares) i 0)
 
--- the chunks of shares xs on nodes ks, the first send beginning at t
-unfoldable pub chunksFrom : FarmCosts → ℕ → ℕ → ℕ → ℕ → List ℕ → List ℕ → List Chunk
-chunksFrom c p j s t [] [] = []
-chunksFrom c p j s t [] (a ∷ xs) = []
-chunksFrom c p j s t (k ∷ ks) [] = []
-chunksFrom c p j s t (k ∷ ks) (a ∷ xs) = chunkOn c p j s t k a ∷ chunksFrom c p j s (sendEnd (costsFor c p) t a) ks xs
+-- the chunks of shares xs on nodes ks, the send before the first having ended at t
+unfoldable pub chunksFrom : ChunkTerms → ℕ → List ℕ → List ℕ → List Chunk
+chunksFrom w t [] [] = []
+chunksFrom w t [] (a ∷ xs) = []
+chunksFrom w t (k ∷ ks) [] = []
+chunksFrom w t (k ∷ ks) (a ∷ xs) = chunkOn w t k a ∷ chunksFrom w (chunkOn w t k a .sent) ks xs
 
 -- the lines of a job's booking, in chunk order
 abbrev pub linesOf : FarmCosts → Job → List Chunk
-linesOf c j = chunksFrom c (j .compute) (j .number) (j .show) (j .booking .start) (chosen (j .booking)) (units (j .booking))
+linesOf c j = chunksFrom (chunkTerms c j) (j .booking .start) (chosen (j .booking)) (units (j .booking))
 
 -- a chunk's end of computing, its units taking p ticks each: the send's end, SC and units × p; after the send's end, at or before the finish, and equal to
 -- it exactly when r is 0
@@ -91,9 +101,14 @@ pub record Computes (c : FarmCosts) (p : ℕ) (x : Chunk) : Type 0 where
   pub within : x .computed ≤ x .finish
   pub equal : (x .computed ≡ x .finish) ↔ (c .returning ≡ 0)
 
--- a job's finish: the latest of its chunks'
+-- the latest finish of chunks, t where there is none
+unfoldable pub latest : ℕ → List Chunk → ℕ
+latest t [] = t
+latest t (x ∷ xs) = max (x .finish) (latest t xs)
+
+-- a job's finish: the latest of its chunks'. `finish-shares` in Chunks.antt says that it is the finish of its shares
 abbrev pub finishOf : FarmCosts → Job → ℕ
-finishOf c j = finish (ownCosts c j) (j .booking .start) (units (j .booking))
+finishOf c j = latest (j .booking .start) (linesOf c j)
 
 -- a chunk with the start of its job, where its node's span begins
 pub record Span : Type 0 where
@@ -104,9 +119,9 @@ pub record Span : Type 0 where
 abbrev pub placed : ℕ → List Chunk → List Span
 placed f xs = map (λ (x : Chunk). record { from = f; chunk = x }) xs
 
--- the spans of shares xs on nodes ks of a job that starts at f, the first send beginning at t
-abbrev pub spansFrom : FarmCosts → ℕ → ℕ → ℕ → ℕ → ℕ → List ℕ → List ℕ → List Span
-spansFrom c p j s f t ks xs = placed f (chunksFrom c p j s t ks xs)
+-- the spans of shares xs on nodes ks of a job that starts at f, the send before the first having ended at t
+abbrev pub spansFrom : ChunkTerms → ℕ → ℕ → List ℕ → List ℕ → List Span
+spansFrom w f t ks xs = placed f (chunksFrom w t ks xs)
 
 -- the spans of a job's booking
 abbrev pub spansOf : FarmCosts → Job → List Span

@@ -6,8 +6,6 @@ use native.Mathlib.Nat.{mul-le-mul-right}
 use native.Mathlib.Omega.{arith}
 use lib.ListN.{length, set}
 use Rattle.lists.specs.Laws.{All, Pairs, Differ, all-map, all-both}
-use Rattle.limits.specs.declared.FarmCosts.{FarmCosts}
-use Rattle.shares.specs.Model.{sendEnd, chunkFinish}
 use Rattle.shares.specs.Lists.{Positive}
 use Rattle.limits.specs.Model.{CostsWithin}
 use Rattle.booking.specs.Best.{freeAt, chosen, units, Feasible}
@@ -15,7 +13,8 @@ use Rattle.booking.specs.Booked.{some-share}
 use Rattle.walk.specs.declared.Job.{Job}
 use Rattle.walk.specs.declared.Terms.{Terms}
 use Rattle.walk.specs.declared.Busy.{Busy}
-use Rattle.walk.specs.Model.{costsFor, chunkOn, chunksFrom, linesOf, spansFrom, spansOf, spansOfAll, after, afters, requestOf, step, busyAfter, plan}
+use Rattle.walk.specs.declared.ChunkTerms.{ChunkTerms}
+use Rattle.walk.specs.Model.{chunkTerms, chunkOn, chunksFrom, linesOf, spansFrom, spansOf, spansOfAll, after, afters, requestOf, step, busyAfter, plan}
 use Rattle.walk.specs.Chain.{Chain, chain-job, free-other, afters-length}
 use Rattle.walk.specs.Chunks.{Sends}
 use Rattle.walk.specs.WalkSteps.{Walkable, FeasibleAll, feasible-sends}
@@ -23,24 +22,25 @@ use Rattle.walk.specs.WalkSteps.{Walkable, FeasibleAll, feasible-sends}
 -- ---- The plan in walk order
 
 -- chunks on different nodes, each free by f, sent back to back from t
-chunks-chain : (c : FarmCosts) (q j s f t : ℕ) (b : Busy) (ks xs : List ℕ) → b .link ≤ t → All (λ (k : ℕ). 1 ≤ k) ks → All (λ (k : ℕ). freeAt (b .free) k ≤ f) ks → Differ ks
-    → Chain b (spansFrom c q j s f t ks xs)
+chunks-chain : (w : ChunkTerms) (f t : ℕ) (b : Busy) (ks xs : List ℕ) → b .link ≤ t → All (λ (k : ℕ). 1 ≤ k) ks → All (λ (k : ℕ). freeAt (b .free) k ≤ f) ks → Differ ks
+    → Chain b (spansFrom w f t ks xs)
 unfolding chunksFrom
-chunks-chain c q j s f t b [] [] h p n d = tt
-chunks-chain c q j s f t b [] (a ∷ xs) h p n d = tt
-chunks-chain c q j s f t b (k ∷ ks) [] h p n d = tt
-chunks-chain c q j s f t b (k ∷ ks) (a ∷ xs) h p n d =
+chunks-chain w f t b [] [] h p n d = tt
+chunks-chain w f t b [] (a ∷ xs) h p n d = tt
+chunks-chain w f t b (k ∷ ks) [] h p n d = tt
+chunks-chain w f t b (k ∷ ks) (a ∷ xs) h p n d =
+    let x = chunkOn w t k a in
     let apart : All (λ (m : ℕ). (1 ≤ m) × (k ≡ m → ⊥)) ks = all-both (λ m i e. (i, e)) ks (p .1) (d .0) in
-    let free : All (λ (m : ℕ). freeAt (set (b .free) (k - 1) (chunkFinish (costsFor c q) t a)) m ≤ f) ks =
-    all-both (λ m i e. omega (arith, free-other (b .free) k m (chunkFinish (costsFor c q) t a) (p .0) (i .0) (i .1))) ks apart (n .1) in
-    ((h, n .0), chunks-chain c q j s f (sendEnd (costsFor c q) t a) (after b (chunkOn c q j s t k a)) ks xs (omega arith) (p .1) free (d .1))
+    let free : All (λ (m : ℕ). freeAt (set (b .free) (k - 1) (x .finish)) m ≤ f) ks =
+    all-both (λ m i e. omega (arith, free-other (b .free) k m (x .finish) (p .0) (i .0) (i .1))) ks apart (n .1) in
+    ((h, n .0), chunks-chain w f (x .sent) (after b x) ks xs (omega arith) (p .1) free (d .1))
 
 -- The spans of a booking that is feasible behind b are a chain from b.
 job-chain : (w : Terms) (b : Busy) (j : Job) → Feasible (requestOf w b j) (b .free) (step w b j .booking) → Chain b (spansOf (w .costs) (step w b j))
 job-chain w b j x =
     let q = step w b j .booking in
     let h = x .choice in
-    chunks-chain (w .costs) (j .compute) (j .number) (j .show) (q .start) (q .start) b (chosen q) (units q) (omega (arith, h .after)) (all-map (λ k a. a .0) (chosen q) (h .known)) (h .idle) (h .differ)
+    chunks-chain (chunkTerms (w .costs) j) (q .start) (q .start) b (chosen q) (units q) (omega (arith, h .after)) (all-map (λ k a. a .0) (chosen q) (h .known)) (h .idle) (h .differ)
 
 -- The spans of a plan in walk order, each job booked behind those before it, are a chain from the walk's free times.
 pub plan-chain : (w : Terms) (b : Busy) (js : List Job) → FeasibleAll w b js → Chain b (spansOfAll (w .costs) (plan w b js))
@@ -52,22 +52,24 @@ plan-chain w b (j ∷ js) a =
 -- ---- Starts grow
 
 -- the link's free time does not fall from send to send
-sends-end : (c : FarmCosts) (q j s t : ℕ) (b : Busy) (ks xs : List ℕ) → t ≤ b .link → t ≤ afters b (chunksFrom c q j s t ks xs) .link
+sends-end : (w : ChunkTerms) (t : ℕ) (b : Busy) (ks xs : List ℕ) → t ≤ b .link → t ≤ afters b (chunksFrom w t ks xs) .link
 unfolding chunksFrom afters
-sends-end c q j s t b [] [] h = h
-sends-end c q j s t b [] (a ∷ xs) h = h
-sends-end c q j s t b (k ∷ ks) [] h = h
-sends-end c q j s t b (k ∷ ks) (a ∷ xs) h =
-    omega (arith, sends-end c q j s (sendEnd (costsFor c q) t a) (after b (chunkOn c q j s t k a)) ks xs (omega arith))
+sends-end w t b [] [] h = h
+sends-end w t b [] (a ∷ xs) h = h
+sends-end w t b (k ∷ ks) [] h = h
+sends-end w t b (k ∷ ks) (a ∷ xs) h =
+    let x = chunkOn w t k a in
+    omega (arith, sends-end w (x .sent) (after b x) ks xs (omega arith))
 
 -- a first send takes the link past its start
-sends-pass : (c : FarmCosts) (q j s t : ℕ) (b : Busy) (ks xs : List ℕ) → 1 ≤ c .send → length ks ≡ length xs → 1 ≤ length xs → Positive xs → t < afters b (chunksFrom c q j s t ks xs) .link
+sends-pass : (w : ChunkTerms) (t : ℕ) (b : Busy) (ks xs : List ℕ) → 1 ≤ w .costs .send → length ks ≡ length xs → 1 ≤ length xs → Positive xs → t < afters b (chunksFrom w t ks xs) .link
 unfolding chunksFrom afters
-sends-pass c q j s t b [] [] m e h p = absurd (omega arith)
-sends-pass c q j s t b [] (a ∷ xs) m e h p = absurd (omega arith)
-sends-pass c q j s t b (k ∷ ks) [] m e h p = absurd (omega arith)
-sends-pass c q j s t b (k ∷ ks) (a ∷ xs) m e h p =
-    omega (arith, mul-le-mul-right (c .send) (p .0), sends-end c q j s (sendEnd (costsFor c q) t a) (after b (chunkOn c q j s t k a)) ks xs (omega arith))
+sends-pass w t b [] [] m e h p = absurd (omega arith)
+sends-pass w t b [] (a ∷ xs) m e h p = absurd (omega arith)
+sends-pass w t b (k ∷ ks) [] m e h p = absurd (omega arith)
+sends-pass w t b (k ∷ ks) (a ∷ xs) m e h p =
+    let x = chunkOn w t k a in
+    omega (arith, mul-le-mul-right (w .costs .send) (p .0), sends-end w (x .sent) (after b x) ks xs (omega arith))
 
 -- A booked job leaves the link free only after its start.
 link-grows : (w : Terms) (b : Busy) (j : Job) → 1 ≤ w .costs .send → 1 ≤ j .size → Feasible (requestOf w b j) (b .free) (step w b j .booking)
@@ -76,7 +78,7 @@ link-grows w b j m z x =
     let q = step w b j .booking in
     let h = x .choice in (
       omega (arith, h .after),
-      sends-pass (w .costs) (j .compute) (j .number) (j .show) (q .start) b (chosen q) (units q) m (h .paired) (some-share (units q) (omega (arith, h .all))) (h .each),
+      sends-pass (chunkTerms (w .costs) j) (q .start) b (chosen q) (units q) m (h .paired) (some-share (units q) (omega (arith, h .all))) (h .each),
     )
 
 -- No job of a plan starts before the link's free time.

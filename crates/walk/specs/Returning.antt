@@ -11,7 +11,7 @@ use Rattle.booking.specs.Best.{chosen, units}
 use Rattle.walk.specs.declared.Job.{Job}
 use Rattle.walk.specs.declared.Terms.{Terms}
 use Rattle.walk.specs.declared.Busy.{Busy}
-use Rattle.walk.specs.Model.{costsFor, computeEnd, chunkOn, chunksFrom, after, afters, step, busyAfter, plan, booksAll}
+use Rattle.walk.specs.Model.{costsFor, computeEnd, chunkTerms, chunkOn, chunksFrom, after, afters, step, busyAfter, plan, booksAll}
 
 -- ---- A chunk
 
@@ -55,19 +55,22 @@ pub as-dearer : (c : FarmCosts) (p : ℕ) → costsFor (withoutReturn c) (p + c 
 as-dearer c p = let q : p + c .returning + 0 ≡ p + c .returning = omega arith in rw q
 
 -- The free times that chunks leave go by their sends and finishes, and so by p + r alone.
-afters-dearer : (c : FarmCosts) (p j s t : ℕ) (b : Busy) (ks xs : List ℕ) → afters b (chunksFrom (withoutReturn c) (p + c .returning) j s t ks xs) ≡ afters b (chunksFrom c p j s t ks xs)
+afters-dearer : (c : FarmCosts) (j : Job) (t : ℕ) (b : Busy) (ks xs : List ℕ)
+    → afters b (chunksFrom (chunkTerms (withoutReturn c) (dearer (c .returning) j)) t ks xs)
+    ≡ afters b (chunksFrom (chunkTerms c j) t ks xs)
 unfolding chunksFrom afters
-afters-dearer c p j s t b [] [] = refl
-afters-dearer c p j s t b [] (a ∷ xs) = refl
-afters-dearer c p j s t b (k ∷ ks) [] = refl
-afters-dearer c p j s t b (k ∷ ks) (a ∷ xs) =
-    let q : p + c .returning + 0 ≡ p + c .returning = omega arith in
-    rw q (afters-dearer c p j s (sendEnd (costsFor c p) t a) (after b (chunkOn c p j s t k a)) ks xs)
+afters-dearer c j t b [] [] = refl
+afters-dearer c j t b [] (a ∷ xs) = refl
+afters-dearer c j t b (k ∷ ks) [] = refl
+afters-dearer c j t b (k ∷ ks) (a ∷ xs) =
+    let x = chunkOn (chunkTerms c j) t k a in
+    let q : j .compute + c .returning + 0 ≡ j .compute + c .returning = omega arith in
+    rw q (afters-dearer c j (x .sent) (after b x) ks xs)
 
 busy-dearer : (w : Terms) (b : Busy) (j : Job) → busyAfter (termsWithout w) b (dearer (w .costs .returning) j) ≡ busyAfter w b j
 busy-dearer w b j =
     let k = step w b j .booking in
-    rw (as-dearer (w .costs) (j .compute)) (afters-dearer (w .costs) (j .compute) (j .number) (j .show) (k .start) b (chosen k) (units k))
+    rw (as-dearer (w .costs) (j .compute)) (afters-dearer (w .costs) j (k .start) b (chosen k) (units k))
 
 -- **A larger p.** A walk plans its jobs as the walk without a way back plans them where each unit takes r ticks longer to compute: the same starts, nodes and
 -- shares, and so the same free times.

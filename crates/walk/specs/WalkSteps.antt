@@ -25,7 +25,7 @@ use Rattle.walk.specs.declared.Busy.{Busy}
 use Rattle.walk.specs.declared.Plan.{Plan}
 use Rattle.walk.specs.Model.{greatest, noJob, defaultCosts, linesOf, byDeadline, requestOf, step, busyAfter, plan, booksAll, InTurn}
 use Rattle.walk.specs.Chain.{afters-length}
-use Rattle.walk.specs.Chunks.{Sends}
+use Rattle.walk.specs.Chunks.{Sends, finish-shares}
 
 -- a job that can be walked
 abbrev pub Walkable : Job → Type 0
@@ -65,7 +65,7 @@ feasible-sends w b j f r h d p x =
       nodes = sym k;
       shares = sym (k ∙ x .choice .paired);
       known = all-map (λ y a. (a .0, omega (arith, a .1))) (chosen q) (x .choice .known);
-      ends = omega (arith, x .choice .ends);
+      ends = omega (arith, finish-shares (w .costs) (step w b j) (x .choice .paired), x .choice .ends);
       costs = r;
       compute = p;
     }

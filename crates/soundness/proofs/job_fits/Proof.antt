@@ -6,7 +6,7 @@ use native.Mathlib.Omega.{arith}
 use lib.ListN.{length, length-set}
 use Rattle.walk.specs.declared.Busy.{Busy}
 use Rattle.walk.specs.Model.{greatest}
-use Rattle.walk.specs.Chunks.{latestFrom, node-known, ends-next, begins-within}
+use Rattle.walk.specs.Chunks.{latestFrom, node-known, ends-next, ends-all, chunk-fits}
 use Rattle.walk.proofs.Sizes.{nodes-length, shares-length, free-length}
 use Rattle.soundness.specs.Steps.{bounded-sends, Fitting, fitting-start, fitting-more, fitting-link, fitting-node, fitting-all}
 use borrow.Author.Needs.{needs}
@@ -14,115 +14,115 @@ use Rattle.soundness.proofs.job_fits.Statement.{statement}
 use Rattle.soundness.proofs.job_fits.Tie as tie
 
 abbrev Inv-loop : tie.InvT-loop
-Inv-loop costs busy job b link₀ free₀ from₀ i₀ link free from i =
-    (i ≤ b .count) × (length free ≡ 64) × (latestFrom costs job i from ≤ greatest) × Fitting costs busy job (record { link = link; free = free }) from i
+Inv-loop busy b terms link₀ free₀ last₀ i₀ link free last i =
+    (i ≤ b .count) × (length free ≡ 64) × (latestFrom terms b i last ≤ greatest) × Fitting terms busy b (record { link = link; free = free }) last i
 
 abbrev μ-loop : tie.MeasureT-loop
-μ-loop costs busy job b link₀ free₀ from₀ i₀ link free from i = b .count - i
+μ-loop busy b terms link₀ free₀ last₀ i₀ link free last i = b .count - i
+
+chunk-terms-requires : tie.Need-chunk-terms-requires Inv-loop μ-loop
+chunk-terms-requires c κs = search needs
 
 loop-holds : tie.Need-loop-holds Inv-loop μ-loop
 loop-holds c =
-    let z = c .before .before in
+    let w = c .before .chunk-terms in
+    let z = c .before .before .before in
     let a = z .args in
-    (omega arith, free-length (a .busy) (z .good .1 .0), z .pre .ends, fitting-start (a .costs) (a .busy) (a .job))
+    let s = bounded-sends (a .costs) (a .job) (z .pre) (nodes-length (a .job) (z .good .1 .1 .0)) (shares-length (a .job) (z .good .1 .1 .0)) in
+    (omega arith, free-length (a .busy) (z .good .1 .0), ends-all (a .costs) (a .job) s (w .result) (w .ensures), fitting-start (w .result) (a .busy) (a .job .booking))
 
 element-copy-out-chunk-on : tie.Need-element-copy-out-chunk-on Inv-loop μ-loop
-element-copy-out-chunk-on c =
-    omega (arith, c .before .before .before .before .pre .count)
+element-copy-out-chunk-on c = omega (arith, c .before .before .before .before .before .pre .count)
 
 mul-chunk-on : tie.Need-mul-chunk-on Inv-loop μ-loop
-mul-chunk-on c =
-    omega (arith, c .before .before .before .before .before .pre .count)
+mul-chunk-on c = omega (arith, c .before .before .before .before .before .before .pre .count)
 
 element-copy-out-chunk-on-2 : tie.Need-element-copy-out-chunk-on-2 Inv-loop μ-loop
-element-copy-out-chunk-on-2 c =
-    omega (arith, c .before .before .before .before .before .pre .count)
+element-copy-out-chunk-on-2 c = omega (arith, c .before .before .before .before .before .before .pre .count)
 
 chunk-on-requires : tie.Need-chunk-on-requires Inv-loop μ-loop
 chunk-on-requires c κs =
-    let z = c .before .before .before .before .before .before in
+    let t = c .before .before in
+    let l = t .before .loop in
+    let z = t .before .before .before .before .before in
     let a = z .args in
     let s = bounded-sends (a .costs) (a .job) (z .pre) (nodes-length (a .job) (z .good .1 .1 .0)) (shares-length (a .job) (z .good .1 .1 .0)) in
-    let l = c .before .before .before .loop in
-    (z .pre .costs, z .pre .compute, begins-within (a .costs) (a .job) s (l .i) (l .from) (c .before .before .loop-test .taken) (l .inv .2))
+    let w = t .before .before .before .chunk-terms in
+    chunk-fits (a .costs) (a .job) s (w .result) (w .ensures) (l .i) (l .last) (l .inv .2)
 
 sub-place : tie.Need-sub-place Inv-loop μ-loop
 sub-place c =
-    let z = c .before .before .before .before .before .before .before in
+    let t = c .before .before .before in
+    let l = t .before .loop in
+    let z = t .before .before .before .before .before in
     let a = z .args in
     let s = bounded-sends (a .costs) (a .job) (z .pre) (nodes-length (a .job) (z .good .1 .1 .0)) (shares-length (a .job) (z .good .1 .1 .0)) in
-    let l = c .before .before .before .before .loop in
-    let k = node-known (a .costs) (a .job) s (l .i) (l .from) (c .before .before .before .loop-test .taken) in
+    let k = node-known (a .costs) (a .job) s (l .i) (t .loop-test .taken) in
     rw (c .chunk-on .ensures) (omega (arith, k))
 
 returns : tie.Need-returns Inv-loop μ-loop
 returns c =
-    let z = c .before .before .before .before .before .before .before .before in
+    let t = c .before .before .before .before .before in
+    let l = t .before .loop in
+    let z = t .before .before .before .before .before in
     let a = z .args in
     let s = bounded-sends (a .costs) (a .job) (z .pre) (nodes-length (a .job) (z .good .1 .1 .0)) (shares-length (a .job) (z .good .1 .1 .0)) in
-    let l = c .before .before .before .before .before .loop in
+    let w = t .before .before .before .chunk-terms in
+    let x = c .before .before .chunk-on in
     let now : Busy = record { link = l .link; free = l .free } in
-    fitting-link (a .costs) (a .busy) (a .job) now (l .from) (l .i) (l .inv .3) s (c .before .before .before .before .loop-test .taken) (c .before .chunk-on .result) (c .before .chunk-on .ensures) (c .if1 .taken)
+    fitting-link (a .costs) (a .busy) (a .job) s (w .result) (w .ensures) now (l .last) (l .i) (l .inv .3) (t .loop-test .taken) (x .result) (x .ensures) (c .if1 .taken)
 
 mul-if2 : tie.Need-mul-if2 Inv-loop μ-loop
 mul-if2 c =
-    let z = c .before .before .before .before .before .before .before .before in
+    let t = c .before .before .before .before .before in
+    let l = t .before .loop in
+    let z = t .before .before .before .before .before in
     let a = z .args in
     let s = bounded-sends (a .costs) (a .job) (z .pre) (nodes-length (a .job) (z .good .1 .1 .0)) (shares-length (a .job) (z .good .1 .1 .0)) in
-    let l = c .before .before .before .before .before .loop in
-    let k = node-known (a .costs) (a .job) s (l .i) (l .from) (c .before .before .before .before .loop-test .taken) in
-    rw (c .before .chunk-on .ensures) (omega (arith, k))
+    let k = node-known (a .costs) (a .job) s (l .i) (t .loop-test .taken) in
+    rw (c .before .before .chunk-on .ensures) (omega (arith, k))
 
 array-read-if2 : tie.Need-array-read-if2 Inv-loop μ-loop
 array-read-if2 c =
-    let z = c .before .before .before .before .before .before .before .before in
+    let t = c .before .before .before .before .before in
+    let l = t .before .loop in
+    let z = t .before .before .before .before .before in
     let a = z .args in
     let s = bounded-sends (a .costs) (a .job) (z .pre) (nodes-length (a .job) (z .good .1 .1 .0)) (shares-length (a .job) (z .good .1 .1 .0)) in
-    let l = c .before .before .before .before .before .loop in
-    let k = node-known (a .costs) (a .job) s (l .i) (l .from) (c .before .before .before .before .loop-test .taken) in
-    rw (c .before .chunk-on .ensures) (omega (arith, k, l .inv .1))
-
-loop-again : tie.Need-loop-again Inv-loop μ-loop
-loop-again c =
-    let z = c .before .before .before .before .before .before .before .before .before in
-    let a = z .args in
-    let s = bounded-sends (a .costs) (a .job) (z .pre) (nodes-length (a .job) (z .good .1 .1 .0)) (shares-length (a .job) (z .good .1 .1 .0)) in
-    let l = c .before .before .before .before .before .before .loop in
-    let x = c .before .before .chunk-on in
-    let more = c .before .before .before .before .before .loop-test .taken in
-    let now : Busy = record { link = l .link; free = l .free } in (
-      omega arith,
-      simp length-set (l .inv .1),
-      rw (x .ensures) (ends-next (a .costs) (a .job) s (l .i) (l .from) more (l .inv .2) .1),
-      fitting-more (a .costs) (a .busy) (a .job) now (l .from) (l .i) (l .inv .3) s more (x .result) (x .ensures) (c .before .if1 .left) (c .if2 .left),
-    )
+    let k = node-known (a .costs) (a .job) s (l .i) (t .loop-test .taken) in
+    rw (c .before .before .chunk-on .ensures) (omega (arith, k, l .inv .1))
 
 returns-2 : tie.Need-returns-2 Inv-loop μ-loop
 returns-2 c =
-    let z = c .before .before .before .before .before .before .before .before .before in
+    let t = c .before .before .before .before .before .before in
+    let l = t .before .loop in
+    let z = t .before .before .before .before .before in
     let a = z .args in
     let s = bounded-sends (a .costs) (a .job) (z .pre) (nodes-length (a .job) (z .good .1 .1 .0)) (shares-length (a .job) (z .good .1 .1 .0)) in
-    let l = c .before .before .before .before .before .before .loop in
+    let w = t .before .before .before .chunk-terms in
+    let x = c .before .before .before .chunk-on in
     let now : Busy = record { link = l .link; free = l .free } in
-    fitting-node (a .costs) (a .busy) (a .job) now (l .from) (l .i) (l .inv .3) s (c .before .before .before .before .before .loop-test .taken) (c .before .before .chunk-on .result) (c .before .before .chunk-on .ensures) (c .if2 .taken)
+    fitting-node (a .costs) (a .busy) (a .job) s (w .result) (w .ensures) now (l .last) (l .i) (l .inv .3) (t .loop-test .taken) (x .result) (x .ensures) (c .if2 .taken)
 
 mul-free : tie.Need-mul-free Inv-loop μ-loop
 mul-free c =
-    let z = c .before .before .before .before .before .before .before .before .before in
+    let t = c .before .before .before .before .before .before in
+    let l = t .before .loop in
+    let z = t .before .before .before .before .before in
     let a = z .args in
     let s = bounded-sends (a .costs) (a .job) (z .pre) (nodes-length (a .job) (z .good .1 .1 .0)) (shares-length (a .job) (z .good .1 .1 .0)) in
-    let l = c .before .before .before .before .before .before .loop in
-    let k = node-known (a .costs) (a .job) s (l .i) (l .from) (c .before .before .before .before .before .loop-test .taken) in
-    rw (c .before .before .chunk-on .ensures) (omega (arith, k))
+    let k = node-known (a .costs) (a .job) s (l .i) (t .loop-test .taken) in
+    rw (c .before .before .before .chunk-on .ensures) (omega (arith, k))
 
 array-write-free : tie.Need-array-write-free Inv-loop μ-loop
 array-write-free c =
-    let z = c .before .before .before .before .before .before .before .before .before in
+    let t = c .before .before .before .before .before .before in
+    let l = t .before .loop in
+    let z = t .before .before .before .before .before in
     let a = z .args in
     let s = bounded-sends (a .costs) (a .job) (z .pre) (nodes-length (a .job) (z .good .1 .1 .0)) (shares-length (a .job) (z .good .1 .1 .0)) in
-    let l = c .before .before .before .before .before .before .loop in
-    let k = node-known (a .costs) (a .job) s (l .i) (l .from) (c .before .before .before .before .before .loop-test .taken) in
-    rw (c .before .before .chunk-on .ensures) (omega (arith, k, l .inv .1))
+    let k = node-known (a .costs) (a .job) s (l .i) (t .loop-test .taken) in
+    rw (c .before .before .before .chunk-on .ensures) (omega (arith, k, l .inv .1))
 
 add-i : tie.Need-add-i Inv-loop μ-loop
 add-i c = search needs
@@ -130,13 +130,31 @@ add-i c = search needs
 loop-less : tie.Need-loop-less Inv-loop μ-loop
 loop-less c = search needs
 
-returns-3 : tie.Need-returns-3 Inv-loop μ-loop
-returns-3 c =
-    let z = c .before .before .before .before in
+loop-again : tie.Need-loop-again Inv-loop μ-loop
+loop-again c =
+    let t = c .before .before .before .before .before .before in
+    let l = t .before .loop in
+    let z = t .before .before .before .before .before in
     let a = z .args in
     let s = bounded-sends (a .costs) (a .job) (z .pre) (nodes-length (a .job) (z .good .1 .1 .0)) (shares-length (a .job) (z .good .1 .1 .0)) in
+    let w = t .before .before .before .chunk-terms in
+    let x = c .before .before .before .chunk-on in
+    let more = t .loop-test .taken in
+    let now : Busy = record { link = l .link; free = l .free } in (
+      omega arith,
+      simp length-set (l .inv .1),
+      rw (x .ensures) (ends-next (w .result) (a .job .booking) (s .nodes) (s .shares) (l .i) (l .last) more (l .inv .2) .1),
+      fitting-more (a .costs) (a .busy) (a .job) s (w .result) (w .ensures) now (l .last) (l .i) (l .inv .3) more (x .result) (x .ensures) (c .before .if1 .left) (c .if2 .left),
+    )
+
+returns-3 : tie.Need-returns-3 Inv-loop μ-loop
+returns-3 c =
     let l = c .before .loop in
-    fitting-all (a .costs) (a .busy) (a .job) (record { link = l .link; free = l .free }) (l .from) (l .i) (l .inv .3) s (c .loop-test .left)
+    let z = c .before .before .before .before .before in
+    let a = z .args in
+    let s = bounded-sends (a .costs) (a .job) (z .pre) (nodes-length (a .job) (z .good .1 .1 .0)) (shares-length (a .job) (z .good .1 .1 .0)) in
+    let w = c .before .before .before .chunk-terms in
+    fitting-all (a .costs) (a .busy) (a .job) s (w .result) (w .ensures) (record { link = l .link; free = l .free }) (l .last) (l .i) (l .inv .3) (c .loop-test .left)
 
 pub job-fits-spec : {M : Type 1} → statement M
 job-fits-spec =
@@ -144,6 +162,7 @@ job-fits-spec =
     (tie.spec
     Inv-loop
     μ-loop
+    chunk-terms-requires
     loop-holds
     element-copy-out-chunk-on
     mul-chunk-on

@@ -2,7 +2,7 @@
 use mathlib.Core.Path.{refl, sym, ap, _∙_}
 use Prim.Native.Nat.{_-_, _≤_}
 use native.Mathlib.Omega.{arith}
-use Rattle.walk.specs.Chunks.{lines-none, ends-next, begins-within}
+use Rattle.walk.specs.Chunks.{lines-none, ends-next, ends-all, chunk-fits}
 use Rattle.timetable.specs.Model.{raised}
 use Rattle.timetable.specs.HeldSteps.{Raising, raising-next}
 use borrow.Author.Needs.{needs}
@@ -10,18 +10,22 @@ use Rattle.timetable.proofs.begin.raise.Statement.{statement}
 use Rattle.timetable.proofs.begin.raise.Tie as tie
 
 abbrev Inv-loop : tie.InvT-loop
-Inv-loop costs job held₀ booking count place time₀ i₀ held time i = (i ≤ count) × Raising costs job held₀ held time i
+Inv-loop held₀ booking count place terms last₀ i₀ held last i = (i ≤ count) × Raising terms booking place held₀ held last i
 
 abbrev μ-loop : tie.MeasureT-loop
-μ-loop costs job held₀ booking count place time₀ i₀ held time i = count - i
+μ-loop held₀ booking count place terms last₀ i₀ held last i = count - i
 
 sub-place : tie.Need-sub-place Inv-loop μ-loop
 sub-place c = omega (arith, c .before .before .pre .show)
 
+chunk-terms-requires : tie.Need-chunk-terms-requires Inv-loop μ-loop
+chunk-terms-requires c κs = search needs
+
 loop-holds : tie.Need-loop-holds Inv-loop μ-loop
 loop-holds c =
-    let p = c .before .before .pre in
-    (omega arith, record { same = refl; ends = p .sends .ends; most = omega arith })
+    let s = c .before .before .before in
+    let w = c .chunk-terms in
+    (omega arith, record { same = refl; ends = ends-all (s .args .costs) (s .args .job) (s .pre .sends) (w .result) (w .ensures); most = omega arith })
 
 element-copy-out-chunk-on : tie.Need-element-copy-out-chunk-on Inv-loop μ-loop
 element-copy-out-chunk-on c = search needs
@@ -34,10 +38,10 @@ element-copy-out-chunk-on-2 c = search needs
 
 chunk-on-requires : tie.Need-chunk-on-requires Inv-loop μ-loop
 chunk-on-requires c κs =
-    let s = c .before .before .before .before .before .before in
     let l = c .before .before .before .loop in
-    let begins = begins-within (s .args .costs) (s .args .job) (s .pre .sends) (l .i) (l .time) (c .before .before .loop-test .taken) (l .inv .1 .ends) in
-    search (needs, begins)
+    let w = c .before .before .before .before .chunk-terms in
+    let s = c .before .before .before .before .before .before .before in
+    chunk-fits (s .args .costs) (s .args .job) (s .pre .sends) (w .result) (w .ensures) (l .i) (l .last) (l .inv .1 .ends)
 
 mul-held : tie.Need-mul-held Inv-loop μ-loop
 mul-held c = search needs
@@ -50,9 +54,12 @@ less-requires c κs = search needs
 
 add-held : tie.Need-add-held Inv-loop μ-loop
 add-held c =
-    let s = c .before .before .before .before .before .before .before .before .before in
-    let l = c .before .before .before .before .before .before .loop in
-    let n = ends-next (s .args .costs) (s .args .job) (s .pre .sends) (l .i) (l .time) (c .before .before .before .before .before .loop-test .taken) (l .inv .1 .ends) in
+    let t = c .before .before .before .before .before in
+    let l = t .before .loop in
+    let w = t .before .before .chunk-terms in
+    let s = t .before .before .before .before .before in
+    let b = s .args .job .booking in
+    let n = ends-next (w .result) b (s .pre .sends .nodes) (s .pre .sends .shares) (l .i) (l .last) (t .loop-test .taken) (l .inv .1 .ends) in
     rw (c .less .ensures, c .before .before .chunk-on .ensures) (omega (arith, n .0, s .pre .room, s .pre .sends .few, l .inv .1 .most))
 
 mul-held-2 : tie.Need-mul-held-2 Inv-loop μ-loop
@@ -69,18 +76,23 @@ loop-less c = search needs
 
 loop-again : tie.Need-loop-again Inv-loop μ-loop
 loop-again c =
-    let s = c .before .before .before .before .before .before .before .before .before in
-    let l = c .before .before .before .before .before .before .loop in
+    let t = c .before .before .before .before .before in
+    let l = t .before .loop in
+    let w = t .before .before .chunk-terms in
+    let s = t .before .before .before .before .before in
+    let b = s .args .job .booking in
     rw (c .less .ensures, c .before .before .chunk-on .ensures)
-    (omega arith, raising-next (s .args .costs) (s .args .job) (s .pre .sends) (s .args .held .now) (l .held) (l .time) (l .i) (c .before .before .before .before .before .loop-test .taken) (l .inv .1))
+    (omega arith, raising-next (w .result) b (s .pre .sends .nodes) (s .pre .sends .shares) (s .args .job .show - 1) (rw (w .ensures)) (s .args .held .now) (l .held) (l .last) (l .i) (t .loop-test .taken) (l .inv .1))
 
 returns : tie.Need-returns Inv-loop μ-loop
 unfolding raised
 returns c =
-    let s = c .before .before .before .before in
     let l = c .before .loop in
-    let none = lines-none (s .args .costs) (s .args .job) (s .pre .sends) (l .i) (l .time) (c .loop-test .left) in
-    sym (l .inv .1 .same ∙ ap (raised (l .held)) none)
+    let w = c .before .before .chunk-terms in
+    let s = c .before .before .before .before .before in
+    let b = s .args .job .booking in
+    let none = lines-none (w .result) b (s .pre .sends .nodes) (s .pre .sends .shares) (l .i) (l .last) (c .loop-test .left) in
+    rw (← w .ensures) (sym (l .inv .1 .same ∙ ap (raised (l .held)) none))
 
 pub raise-spec : {M : Type 1} → statement M
 raise-spec =
@@ -89,6 +101,7 @@ raise-spec =
     Inv-loop
     μ-loop
     sub-place
+    chunk-terms-requires
     loop-holds
     element-copy-out-chunk-on
     mul-chunk-on
