@@ -18,23 +18,23 @@ use Rattle.answers.specs.declared.Answer.the-variants as answer
 -- ---- Answers
 
 -- which answer it is: the paper's words open, yes, clock, account, gone, quote and no; what showing answers has no word there
-pub data Word : Type 0 where
-  Open : Word
-  Yes : Word
-  Clock : Word
-  Shown : Word
-  Account : Word
-  Gone : Word
-  Quote : Word
-  No : Word
+pub data SaidWord : Type 0 where
+  Open : SaidWord
+  Yes : SaidWord
+  Clock : SaidWord
+  Shown : SaidWord
+  Account : SaidWord
+  Gone : SaidWord
+  Quote : SaidWord
+  No : SaidWord
 
 -- an answer in the paper's terms: its word; the number of the question that was answered no, 0 where all were answered yes; and the values
 pub record Said : Type 0 where
-  pub word : Word
+  pub word : SaidWord
   pub number : ℕ
   pub values : List ℕ
 
-abbrev pub granted : Word → List ℕ → Said
+abbrev pub granted : SaidWord → List ℕ → Said
 granted w vs = record { word = w; number = 0; values = vs }
 
 abbrev pub refused : ℕ → Said
@@ -100,7 +100,7 @@ asksOffer shows clock waiting used o p =
 -- ---- Quotes
 
 -- the word quote in place of yes; every other word stays
-abbrev pub quoteWord : Word → Word
+abbrev pub quoteWord : SaidWord → SaidWord
 quoteWord Open = Open
 quoteWord Yes = Quote
 quoteWord Clock = Clock

@@ -4,14 +4,14 @@ ghost use mathlib.Core.List.{[], _∷_};
 ghost use mathlib.Core.Path.{_≡_};
 ghost use Prim.Native.Nat.{_-_, _≤_};
 ghost use lib.ListN.{getD};
-ghost use Rattle.walk.specs.Chunks.{Sends};
+ghost use Rattle.walk.specs.Chunks.{Sendable};
 ghost use Rattle.answers.specs.Model.{Account, said, granted, computeOr, asksOffer, yesOf, asQuote};
 ghost use Rattle.answers.specs.Steps.{askedOf};
 use limits::FarmCosts;
 use limits::between;
 use limits::deadline_within;
 use limits::place_left;
-use numbers::less;
+use numbers::difference;
 use walk::Job;
 use walk::finish_of;
 
@@ -126,7 +126,7 @@ pub fn ask(shows: usize, clock: u64, waiting: usize, used: u64, offer: Offer, co
 
 // The answer to an accepted offer.
 pub fn yes(costs: FarmCosts, job: Job) -> Answer
-    requires { ⌜ Sends costs job ⌝ }
+    requires { ⌜ Sendable costs job ⌝ }
     ensures { λ r. ⌜ said r ≡ yesOf costs job ⌝ }
 {
     let finish = finish_of(costs, job);
@@ -169,6 +169,6 @@ pub fn columns(held: [u64; 32], allowances: [u64; 32], show: u64) -> Answer
     Answer::Account {
         show,
         held: ticks,
-        charged: less(ticks, allowances[place]),
+        charged: difference(ticks, allowances[place]),
     }
 }

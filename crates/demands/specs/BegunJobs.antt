@@ -13,7 +13,7 @@ use Rattle.lists.specs.Keep.{keep-perm}
 use Rattle.timetable.specs.ByStart.{starts-split}
 use Rattle.planner.specs.declared.Farm.{Farm}
 use Rattle.planner.specs.Model.{Span, linesOf, spansOf, spansOfAll, byStart, waitingOf}
-use Rattle.planner.specs.Clock.{keep, startsAfter, linesOfAll, begun, left}
+use Rattle.planner.specs.Clock.{keep, startsAfter, linesOfAll, begun, waitingOn}
 use Rattle.demands.specs.CallLists.{chunkOf}
 
 -- the jobs that wait on, in order of start
@@ -25,11 +25,11 @@ pub begun-later : (f : Farm) (t : ℕ) → byStart (waitingOf f) ≡ begun f t +
 begun-later f t = starts-split t (byStart (waitingOf f)) (by-start-grows (waitingOf f))
 
 -- The jobs that wait on, in either order.
-pub later-left : (f : Farm) (t : ℕ) → List·Permᴰ (later f t) (left f t)
+pub later-left : (f : Farm) (t : ℕ) → List·Permᴰ (later f t) (waitingOn f t)
 later-left f t = keep-perm (startsAfter t) (Permᴰ·symm (by-start-perm (waitingOf f)))
 
 -- The waiting jobs are those that begin and those that wait on.
-pub begun-left : (f : Farm) (t : ℕ) → List·Permᴰ (waitingOf f) (begun f t ++ left f t)
+pub begun-left : (f : Farm) (t : ℕ) → List·Permᴰ (waitingOf f) (begun f t ++ waitingOn f t)
 begun-left f t = List·Permᴰ·trans (subst (List·Permᴰ (waitingOf f)) (begun-later f t) (by-start-perm (waitingOf f))) (Permᴰ·append-left (begun f t) (later-left f t))
 
 -- ---- Spans and lines of several jobs

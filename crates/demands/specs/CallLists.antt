@@ -74,23 +74,23 @@ run w [] = w
 run w (c ∷ cs) = run (note w c) cs
 
 -- each call with what it answers
-abbrev pub answersOf : Farm → List Call → List (Call × Said)
-answersOf f cs = answersTo handed reply f cs
+abbrev pub callAnswers : Farm → List Call → List (Call × Said)
+callAnswers f cs = answersTo handed reply f cs
 
 -- whether it is no quote
-abbrev pub noQuote : Call → Bool
-noQuote (offer o) = true
-noQuote (quote o) = false
-noQuote (withdraw n) = true
-noQuote (move t m) = true
-noQuote (account s) = true
+abbrev pub noQuoteCall : Call → Bool
+noQuoteCall (offer o) = true
+noQuoteCall (quote o) = false
+noQuoteCall (withdraw n) = true
+noQuoteCall (move t m) = true
+noQuoteCall (account s) = true
 
 -- the list with its quotes left out, and what its other calls answer
-abbrev pub withoutQuotes : List Call → List Call
-withoutQuotes cs = keep noQuote cs
+abbrev pub callsWithoutQuotes : List Call → List Call
+callsWithoutQuotes cs = keep noQuoteCall cs
 
-abbrev pub otherAnswers : Farm → List Call → List (Call × Said)
-otherAnswers f cs = keep (λ (a : Call × Said). noQuote (a .0)) (answersOf f cs)
+abbrev pub otherCallAnswers : Farm → List Call → List (Call × Said)
+otherCallAnswers f cs = keep (λ (a : Call × Said). noQuoteCall (a .0)) (callAnswers f cs)
 
 -- ---- What is compared
 

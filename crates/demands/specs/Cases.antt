@@ -17,7 +17,7 @@ use Rattle.walk.specs.Model.{noChunk, latest}
 use Rattle.planner.specs.declared.Farm.{Farm}
 use Rattle.answers.specs.declared.Offer.{Offer}
 use Rattle.limits.specs.Model.{allAtMost, allAtLeast, costsWithin}
-use Rattle.planner.specs.Model.{chunksFrom, spansOfAll, afters, waitingOf, termsOf, busyOf, byDeadline, keysBy, plan, booksAll, fitAll}
+use Rattle.planner.specs.Model.{chunksFrom, spansOfAll, afters, waitingOf, walkTermsOf, freeTimesOf, byDeadline, keysBy, plan, booksAll, fitAll}
 use Rattle.planner.specs.Passes.{countsWithin, timesWithin, waitingPass, passesOf}
 use Rattle.demands.specs.CallLists as call
 use Rattle.demands.specs.CallLists.{Call, handed}
@@ -300,7 +300,7 @@ unfolding run made outcome openFarm offerAsked offerSaid offerFarm hasNumber ofN
 quote-cases-right = (refl, (refl, (refl, tt)))
 
 -- After that withdrawal a walk of the waiting jobs alone does not book them all, so that an offer walked behind them is refused with 8 however small it is.
-pub old-job-fails : booksAll (termsOf (farmOf oldJobFails)) (busyOf (farmOf oldJobFails)) (byDeadline (waitingOf (farmOf oldJobFails))) ≡ false
+pub old-job-fails : booksAll (walkTermsOf (farmOf oldJobFails)) (freeTimesOf (farmOf oldJobFails)) (byDeadline (waitingOf (farmOf oldJobFails))) ≡ false
 unfolding made openFarm offerAsked offerSaid offerFarm hasNumber ofNumber without withdrawSaid withdrawFarm passesOf countsWithin timesWithin waitingPass costsWithin allAtMost allAtLeast jobsPass jobPasses jobWithin jobKept sharesKept noneOf allDiffer fitAll spansOfAll chunksFrom afters keysBy plan booksAll noLater insertKey sortOnto nodeKeys ranked search bookingOf bookedAt bookOf latest sum first left capacity cut greedy earliest
 old-job-fails = refl
 

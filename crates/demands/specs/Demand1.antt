@@ -29,7 +29,7 @@ use Rattle.walk.specs.declared.Chunk.{Chunk}
 use Rattle.walk.specs.Order.{by-start-perm}
 use Rattle.walk.specs.Model.{Computes}
 use Rattle.walk.specs.EndOfComputing.{job-computes}
-use Rattle.timetable.specs.Model.{rowOf}
+use Rattle.timetable.specs.Model.{chunkRow}
 use Rattle.planner.specs.declared.Farm.{Farm}
 use Rattle.answers.specs.declared.Offer.{Offer}
 use Rattle.planner.specs.Model.{greatest, between, costsWithin, linesOf, byStart, waitingOf, Sized}
@@ -251,7 +251,7 @@ account-says f s = go (passesOf f) (between 1 s (f .shows)) (s ∷ heldBy f s �
 -- ---- A grant writes its lines and nothing else
 
 -- A record is its eight numbers: two that differ in none of them are the same. So what follows, and demand 3, speak of all eight fields.
-pub record-is-row : (x y : Chunk) → rowOf x ≡ rowOf y → x ≡ y
+pub record-is-row : (x y : Chunk) → chunkRow x ≡ chunkRow y → x ≡ y
 record-is-row x y e =
     ap (λ (l : List ℕ). record {
       job = getD l 0 0;

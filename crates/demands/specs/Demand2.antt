@@ -26,7 +26,7 @@ use Rattle.walk.specs.WalkSteps.{Ready}
 use Rattle.walk.specs.BestWalk.{BestAll, Fails, walk-iff, walk-each, walked-jobs}
 use Rattle.planner.specs.declared.Farm.{Farm}
 use Rattle.answers.specs.declared.Offer.{Offer}
-use Rattle.planner.specs.Model.{Sized, waitingOf, busyOf, termsOf, deadlineOf, requestOf, step}
+use Rattle.planner.specs.Model.{Sized, waitingOf, freeTimesOf, walkTermsOf, deadlineOf, requestOf, step}
 use Rattle.planner.specs.PassesSteps.{passes-within, passes-jobs}
 use Rattle.planner.specs.Calls.{Said, refused, newJob, queueOf, planned, accepts, withPlan, offerAsked, offerSaid, offerFarm, OfferGranted}
 use Rattle.planner.specs.CallsSteps.{walk-ready}
@@ -55,10 +55,10 @@ pub record Demand2 (f : Farm) (o : Offer) : Type 0 where
   -- The walk books all exactly when each job has the best of all choices behind those before it, and not all exactly when some job has no choice at
   -- all behind the best of those before it.
   pub books : offerAsked f o ≡ 0
-      → ((accepts f o ≡ true) ↔ BestAll (termsOf f) (busyOf f) (queueOf f o)) × ((accepts f o ≡ false) ↔ Fails (termsOf f) (busyOf f) (queueOf f o))
+      → ((accepts f o ≡ true) ↔ BestAll (walkTermsOf f) (freeTimesOf f) (queueOf f o)) × ((accepts f o ≡ false) ↔ Fails (walkTermsOf f) (freeTimesOf f) (queueOf f o))
   -- Each job of the walk, by its own costs, b the free times that those before it have left, has no booking exactly when it has no choice; otherwise it has the best
   -- of all choices, and no other booking is that.
-  pub jobs : offerAsked f o ≡ 0 → InTurn (λ w b j. IsBooking (requestOf w b j) (b .free) (step w b j .booking)) (termsOf f) (busyOf f) (queueOf f o)
+  pub jobs : offerAsked f o ≡ 0 → InTurn (λ w b j. IsBooking (requestOf w b j) (b .free) (step w b j .booking)) (walkTermsOf f) (freeTimesOf f) (queueOf f o)
 
 -- ---- The theorem
 
@@ -72,7 +72,7 @@ module _ (f : Farm) (o : Offer) where
       go (suc n) q = absurd (let r = ap (λ (x : Said). x .number) (offer-stopped f o n q .0) in omega arith)
 
   -- What the walk of an offer past them starts from.
-  ready : offerAsked f o ≡ 0 → Ready (termsOf f) (busyOf f) (queueOf f o)
+  ready : offerAsked f o ≡ 0 → Ready (walkTermsOf f) (freeTimesOf f) (queueOf f o)
   ready e = walk-ready f (newJob f o) (offer-offered f o (offer-granted f o e))
 
   module _ (sized : Sized f) where
@@ -100,6 +100,6 @@ demand2 f o sized = record {
   unbooked = λ e n. ⊎-elim (λ x. absurd (false≢true (sym n ∙ x .0))) (λ x. (x .2, x .3)) (offer-is f o (enough f o sized e) e);
   walked = walked-jobs (waitingOf f ++ newJob f o ∷ []);
   last = λ e. all-map (λ j h. omega (arith, h .0 .number .1)) (waitingOf f) (passes-jobs f (offer-granted f o e .passes));
-  books = λ e. walk-iff (termsOf f) (busyOf f) (queueOf f o) (ready f o e) (enough f o sized e);
-  jobs = λ e. walk-each (termsOf f) (busyOf f) (queueOf f o) (ready f o e) (enough f o sized e);
+  books = λ e. walk-iff (walkTermsOf f) (freeTimesOf f) (queueOf f o) (ready f o e) (enough f o sized e);
+  jobs = λ e. walk-each (walkTermsOf f) (freeTimesOf f) (queueOf f o) (ready f o e) (enough f o sized e);
 }

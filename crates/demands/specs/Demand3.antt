@@ -3,7 +3,7 @@
 --    that the one before it handed back,"                                             demand3, over `run` (CallLists.antt), withdrawals and quotes among them
 --   "no accepted job is late."                                                        each, due
 --   "Its chunks are issued, each once, all by the first granted clock move after its acceptance to reach the start it
---    has at that move,"                                                               stories (`Lifecycle` in CallLists.antt)
+--    has at that move,"                                                               lifecycles (`Lifecycle` in CallLists.antt)
 --   "and no others are ever issued."                                                  only
 --   "They add up to its size, end by its deadline,"                                   each (`Fulfils` in CallLists.antt)
 --   document 02 (i): "Deadlines are kept for mixed jobs as they were for equal ones." each, due (`Accepted` has the compute cost, and `Fulfils` says that
@@ -22,7 +22,7 @@
 --   "Planning and node spans are unaffected."                                         apart, walks; a span begins at its job's start: each (`start` of `Issued`)
 --   document 02 (ii): "All other bookings keep start, nodes and shares;"              withdrawals (each other waiting job is, whole, the one it was)
 --   "the next offer walks without it. Earliest start and fewest nodes hold of a booking as of the walk that made it."   walks, latest
---   "A withdrawn job owes nothing and is issued nothing,"                             gone, stories (`withdrawn` of `Lifecycle`); its number is never used
+--   "A withdrawn job owes nothing and is issued nothing,"                             gone, lifecycles (`withdrawn` of `Lifecycle`); its number is never used
 --                                                                                     again: numbers, once
 --   "and demand 3 covers all the others for every list of offers, withdrawals and clock moves."   each, due and the rest
 --   document 02 (iv): "An offer made next with the same fields gets what was quoted."   quoted
@@ -44,11 +44,11 @@ use Rattle.limits.specs.declared.FarmCosts.{FarmCosts}
 use Rattle.shares.specs.Model.{sum}
 use Rattle.booking.specs.Best.{freeAt}
 use Rattle.walk.specs.declared.Job.{Job}
-use Rattle.walk.specs.declared.Busy.{Busy}
+use Rattle.walk.specs.declared.FreeTimes.{FreeTimes}
 use Rattle.walk.specs.declared.Chunk.{Chunk}
 use Rattle.planner.specs.declared.Farm.{Farm}
 use Rattle.answers.specs.declared.Offer.{Offer}
-use Rattle.planner.specs.Model.{mostHeld, between, costsWithin, ownCosts, Span, linesOf, spansOf, spansOfAll, Sized, after, afters, byDeadline, byStart, plan, waitingOf, busyOf, termsOf, Between, Apart}
+use Rattle.planner.specs.Model.{mostHeld, between, costsWithin, ownCosts, Span, linesOf, spansOf, spansOfAll, Sized, after, afters, byDeadline, byStart, plan, waitingOf, freeTimesOf, walkTermsOf, Between, Apart}
 use Rattle.planner.specs.Passes.{passesOf}
 use Rattle.walk.specs.Chain.{Fits, Chain, chain-append, Proper, free-same, free-other, after-length, chain-apart, finish-after-start}
 use Rattle.walk.specs.Order.{by-start-perm}
@@ -60,13 +60,13 @@ use Rattle.demands.specs.QuestionEleven.{passes-iff}
 use Rattle.planner.specs.Calls.{ofNumber, without, Open, Said, granted, refused, showsWithin, openFarm, openSaid, heldBy, newJob, queueOf, planned, withPlan, asQuote, withdrawnFarm}
 use Rattle.planner.specs.Clock.{holds, linesOfAll, begun, issued, moveAsked}
 use Rattle.demands.specs.Starts.{StartsDiffer, starts-differ, next-few, next-granted}
-use Rattle.demands.specs.CallLists.{Call, offer, quote, withdraw, Accepted, Noted, nothing, accepting, withdrawing, moving, reply, handed, isGranted, noted, chunkOf, History, opening, lastOr, note, run, answersOf, withoutQuotes, otherAnswers, heldOf, upTo, linesFor, latestFinish, latestSent, acceptedOf, Fulfils, Waits, IssuesNone, Lifecycle}
+use Rattle.demands.specs.CallLists.{Call, offer, quote, withdraw, Accepted, Noted, nothing, accepting, withdrawing, moving, reply, handed, isGranted, noted, chunkOf, History, opening, lastOr, note, run, callAnswers, callsWithoutQuotes, otherCallAnswers, heldOf, upTo, linesFor, latestFinish, latestSent, acceptedOf, Fulfils, Waits, IssuesNone, Lifecycle}
 use Rattle.demands.specs.BegunJobs.{lines-all}
 use Rattle.queue.specs.Numbers.{numberOfJob, of-number-has}
 use Rattle.demands.specs.WithdrawPasses.{leaves-others, withdrawn-waiting}
 use Rattle.demands.specs.MovePasses.{Waiting, waiting-jobs, booked-chain, lines-count}
 use Rattle.demands.specs.Outcome.{taken, Outcome, stays, takes, leaves, moves, granted-offer, granted-withdrawal, outcome}
-use Rattle.demands.specs.Invariant.{idle, Whole, Inv, spans-issued, busy-spans, whole-proper, issued-within-free, open-inv, note-inv, run-inv}
+use Rattle.demands.specs.Invariant.{idle, Whole, Inv, spans-issued, times-spans, whole-proper, issued-within-free, open-inv, note-inv, run-inv}
 use Rattle.demands.specs.Quotes.{quote-next, run-without, answers-without}
 use Rattle.demands.specs.Lifecycles.{lines-named, none-of-jobs, lines-none, lines-own, spans-start, whole-fulfils, waits-as, NoLongerWaits, issues-no-more, begun-no-longer-waits, front-differ, none-before, Among, among-walks, lifecycle}
 
@@ -109,12 +109,12 @@ pub record Withdrawal (f : Farm) (n : ℕ) : Type 0 where
 -- (demand 2).
 pub record Walked (v : History) (js latest : List Job) : Type 0 where
   -- its plan replaced the old one
-  pub plans : latest ≡ plan (termsOf (v .farm)) (busyOf (v .farm)) (byDeadline js)
-  pub best : BestAll (termsOf (v .farm)) (busyOf (v .farm)) (byDeadline js)
+  pub plans : latest ≡ plan (walkTermsOf (v .farm)) (freeTimesOf (v .farm)) (byDeadline js)
+  pub best : BestAll (walkTermsOf (v .farm)) (freeTimesOf (v .farm)) (byDeadline js)
   -- it knew the clock, and as free times the latest finish of an issued chunk on each node and the latest end of an issued send
-  pub clock : termsOf (v .farm) .clock ≡ v .time
-  pub free : (k : ℕ) → Between 1 k (v .farm .nodes) → freeAt (busyOf (v .farm) .free) k ≡ latestFinish k (v .lines)
-  pub link : busyOf (v .farm) .link ≡ latestSent (v .lines)
+  pub clock : walkTermsOf (v .farm) .clock ≡ v .time
+  pub free : (k : ℕ) → Between 1 k (v .farm .nodes) → freeAt (freeTimesOf (v .farm) .free) k ≡ latestFinish k (v .lines)
+  pub link : freeTimesOf (v .farm) .link ≡ latestSent (v .lines)
 
 -- the list is the calls before one, that one, and those after it
 abbrev pub Split : List Call → List Call → Call → List Call → Type 0
@@ -132,7 +132,7 @@ pub record Demand3 (f : Farm) (cs : List Call) (w : History) : Type 0 where
   pub once : Differ (w .gone)
   -- They are issued, each once, all by the first granted clock move after its acceptance to reach the start it has at that move; or a granted withdrawal
   -- names it before, and none is issued.
-  pub stories : (before : List Call) (c : Call) (after : List Call) → Split cs before c after
+  pub lifecycles : (before : List Call) (c : Call) (after : List Call) → Split cs before c after
       → All (λ (x : Accepted). Lifecycle x (handed (run (opening f) before .farm) c) after)
       (noted (run (opening f) before .farm) c .jobs)
   -- No others are ever issued.
@@ -168,8 +168,8 @@ pub record Demand3 (f : Farm) (cs : List Call) (w : History) : Type 0 where
   pub quoted : (before : List Call) (o : Offer) (after : List Call) → Split cs before (quote o) after
       → reply (run (opening f) before .farm) (quote o) ≡ asQuote (reply (run (opening f) (before ++ quote o ∷ []) .farm) (offer o))
   -- Without its quotes the list leaves the same farm, has issued the same chunks, and all else is noted as it is; and its other calls answer what they answer.
-  pub unquoted : run (opening f) (withoutQuotes cs) ≡ w
-  pub others : answersOf f (withoutQuotes cs) ≡ otherAnswers f cs
+  pub unquoted : run (opening f) (callsWithoutQuotes cs) ≡ w
+  pub others : callAnswers f (callsWithoutQuotes cs) ≡ otherCallAnswers f cs
   -- No two waiting jobs share a start, so a move to the next start issues at most 64 lines, and is granted wherever 64 records are lent.
   pub starts : Pairs StartsDiffer (waitingOf (w .farm))
   pub next : (j : Job) → List·Memᴰ j (waitingOf (w .farm)) → All (λ (k : Job). j .booking .start ≤ k .booking .start) (waitingOf (w .farm))
@@ -179,7 +179,7 @@ pub record Demand3 (f : Farm) (cs : List Call) (w : History) : Type 0 where
 
 -- ---- Free times
 
-latest-one : (k : ℕ) (b : Busy) (x : Span) (r v : ℕ) (t : Bool) → eqb (x .chunk .node) k ≡ t → length (b .free) ≡ 64 → 1 ≤ k → Proper 64 x → Fits b x
+latest-one : (k : ℕ) (b : FreeTimes) (x : Span) (r v : ℕ) (t : Bool) → eqb (x .chunk .node) k ≡ t → length (b .free) ≡ 64 → 1 ≤ k → Proper 64 x → Fits b x
     → v ≡ max (freeAt (after b (x .chunk) .free) k) r → v ≡ max (freeAt (b .free) k) (cond t (max (x .chunk .finish) r) r)
 latest-one k b x r v true e l h p q i =
     let n : x .chunk .node ≡ k = eqb-true (x .chunk .node) k e in
@@ -192,7 +192,7 @@ latest-one k b x r v false e l h p q i =
     omega (arith, i, now)
 
 -- Behind a chain each node's free time is the latest finish on it.
-free-latest : (k : ℕ) (b : Busy) (xs : List Span) → length (b .free) ≡ 64 → 1 ≤ k → All (Proper 64) xs → Chain b xs
+free-latest : (k : ℕ) (b : FreeTimes) (xs : List Span) → length (b .free) ≡ 64 → 1 ≤ k → All (Proper 64) xs → Chain b xs
     → freeAt (afters b (map chunkOf xs) .free) k ≡ max (freeAt (b .free) k) (latestFinish k (map chunkOf xs))
 unfolding afters latestFinish
 free-latest k b [] l h p q = omega arith
@@ -201,7 +201,7 @@ free-latest k b (x ∷ xs) l h p q =
     (free-latest k (after b (x .chunk)) xs (after-length b (x .chunk) ∙ l) h (p .1) (q .1))
 
 -- The link's free time is the latest end of a send.
-link-latest : (b : Busy) (xs : List Span) → All (Proper 64) xs → Chain b xs → afters b (map chunkOf xs) .link ≡ max (b .link) (latestSent (map chunkOf xs))
+link-latest : (b : FreeTimes) (xs : List Span) → All (Proper 64) xs → Chain b xs → afters b (map chunkOf xs) .link ≡ max (b .link) (latestSent (map chunkOf xs))
 unfolding afters latestSent
 link-latest b [] p q = omega arith
 link-latest b (x ∷ xs) p q = omega (arith, link-latest (after b (x .chunk)) xs (p .1) (q .1), p .0 .sends, q .0 .0)
@@ -328,7 +328,7 @@ module _ (w : History) (i : Inv w) where
       let proper : All (Proper 64) (spansOfAll c order) =
       spans-all (Proper 64) c order (perm-all (λ (j : Job). All (Proper 64) (spansOf c j)) (by-start-perm (waitingOf f)) (all-map (λ j h. h .proper) (waitingOf f) (waiting-jobs f (i .sized) (i .passes)))) in
       let chain : Chain idle (w .spans ++ spansOfAll c order) =
-      chain-append idle (w .spans) (spansOfAll c order) .1 (i .chain, subst (λ (b : Busy). Chain b (spansOfAll c order)) (busy-spans w i) (booked-chain f (i .sized) (i .passes))) in
+      chain-append idle (w .spans) (spansOfAll c order) .1 (i .chain, subst (λ (b : FreeTimes). Chain b (spansOfAll c order)) (times-spans w i) (booked-chain f (i .sized) (i .passes))) in
       perm-pairs Apart apart-sym (Permᴰ·append-left (w .spans) (spans-perm c (Permᴰ·symm (by-start-perm (waitingOf f)))))
       (chain-apart idle (w .spans ++ spansOfAll c order) (length-replicate {A = ℕ} 64 0) (all-join (Proper 64) (w .spans) (spansOfAll c order) spans-proper proper) chain)
 
@@ -336,13 +336,13 @@ module _ (w : History) (i : Inv w) where
   node-free k h =
       let n = passes-iff (w .farm) (i .sized) .0 (i .passes) .within .nodes .1 in
       let zero′ : freeAt (replicate 64 0) k ≡ 0 = getD-replicate 64 (k - 1) 0 0 (omega (arith, h .0, h .1)) in
-      let now : freeAt (w .farm .free) k ≡ freeAt (afters idle (map chunkOf (w .spans)) .free) k = ap (λ (b : Busy). freeAt (b .free) k) (busy-spans w i) in
+      let now : freeAt (w .farm .free) k ≡ freeAt (afters idle (map chunkOf (w .spans)) .free) k = ap (λ (b : FreeTimes). freeAt (b .free) k) (times-spans w i) in
       subst (λ (l : List Chunk). freeAt (w .farm .free) k ≡ latestFinish k l) (spans-issued w i)
       (omega (arith, zero′, now, free-latest k idle (w .spans) (length-replicate {A = ℕ} 64 0) (h .0) spans-proper (i .chain)))
 
   link-free : w .farm .link ≡ latestSent (w .lines)
   link-free =
-      let now : w .farm .link ≡ afters idle (map chunkOf (w .spans)) .link = ap (λ (b : Busy). b .link) (busy-spans w i) in
+      let now : w .farm .link ≡ afters idle (map chunkOf (w .spans)) .link = ap (λ (b : FreeTimes). b .link) (times-spans w i) in
       subst (λ (l : List Chunk). w .farm .link ≡ latestSent l) (spans-issued w i) (omega (arith, now, link-latest idle (w .spans) spans-proper (i .chain)))
 
 -- ---- One call of the list
@@ -365,7 +365,7 @@ new-among f c z = go (outcome f c)
     go (moves t n k h q) = all (moving t (issued f t)) q tt
 
 -- What a walk of any queue knew.
-walk-knew : (w : History) (js latest : List Job) → Inv w → latest ≡ plan (termsOf (w .farm)) (busyOf (w .farm)) (byDeadline js) → BestAll (termsOf (w .farm)) (busyOf (w .farm)) (byDeadline js)
+walk-knew : (w : History) (js latest : List Job) → Inv w → latest ≡ plan (walkTermsOf (w .farm)) (freeTimesOf (w .farm)) (byDeadline js) → BestAll (walkTermsOf (w .farm)) (freeTimesOf (w .farm)) (byDeadline js)
     → Walked w js latest
 walk-knew w js latest i e best = record { plans = e; best = best; clock = i .clock; free = node-free w i; link = link-free w i }
 
@@ -376,7 +376,7 @@ offer-walked w o i e =
     let k = granted-offer f o e in
     let n = passes-iff f (i .sized) .0 (i .passes) .within .nodes .1 in
     walk-knew w (waitingOf f ++ newJob f o ∷ []) (note w (offer o) .latest) i (ap (λ (m : Noted). lastOr (w .latest) (m .plans)) (k .2))
-    (walk-best (termsOf f) (busyOf f) (queueOf f o) (walk-ready f (newJob f o) (offer-offered f o (k .0 .granted))) (omega (arith, n, i .sized .free)) (k .0 .books))
+    (walk-best (walkTermsOf f) (freeTimesOf f) (queueOf f o) (walk-ready f (newJob f o) (offer-offered f o (k .0 .granted))) (omega (arith, n, i .sized .free)) (k .0 .books))
 
 -- A granted withdrawal takes one job out.
 call-withdrawal : (f : Farm) (n : ℕ) → Sized f → isGranted f (withdraw n) ≡ true → Withdrawal f n
@@ -442,7 +442,7 @@ demand3 n c al e cs =
       due = due-jobs w i;
       gone = withdrawn-jobs w i;
       once = gone-once w i;
-      stories = λ before x after h.
+      lifecycles = λ before x after h.
           let v = run (opening f) before in
           let j : Inv (run (opening f) before) = run-inv (opening f) before o in
           all-map (λ y m. lifecycle y (note v x) after (note-inv v x j) m) (noted (v .farm) x .jobs) (new-among (v .farm) x (j .sized));

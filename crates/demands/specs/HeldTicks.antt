@@ -10,7 +10,7 @@ use lib.ListN.{length, getD, set, length-set}
 use lib.Seq.{getD-set-same, getD-set-other}
 use Rattle.lists.specs.Laws.{All, all-map}
 use Rattle.shares.specs.Model.{sum}
-use Rattle.walk.specs.declared.Busy.{Busy}
+use Rattle.walk.specs.declared.FreeTimes.{FreeTimes}
 use Rattle.walk.specs.declared.Chunk.{Chunk}
 use Rattle.walk.specs.Chain.{Chain, Proper, after-length}
 use Rattle.planner.specs.Model.{Span, after, afters, Between}
@@ -25,7 +25,7 @@ all-set P (x ∷ xs) zero v h k = (k, h .1)
 all-set P (x ∷ xs) (suc i) v h k = (h .0, all-set P xs i v (h .1) k)
 
 -- Behind chunks that send and finish by g no free time is after g.
-pub afters-within : (g : ℕ) (b : Busy) (xs : List Chunk) → b .link ≤ g → All (λ (x : ℕ). x ≤ g) (b .free) → All (λ (x : Chunk). (x .sent ≤ g) × (x .finish ≤ g)) xs
+pub afters-within : (g : ℕ) (b : FreeTimes) (xs : List Chunk) → b .link ≤ g → All (λ (x : ℕ). x ≤ g) (b .free) → All (λ (x : Chunk). (x .sent ≤ g) × (x .finish ≤ g)) xs
     → (afters b xs .link ≤ g) × All (λ (x : ℕ). x ≤ g) (afters b xs .free)
 unfolding afters
 afters-within g b [] l h k = (l, h)
@@ -68,7 +68,7 @@ held-append s (x ∷ xs) ys = go (eqb (x .show) s) (held-append s xs ys)
 
 -- Each chunk of a chain moves its node's free time on by at least its span, and holds a part of that, so that all held ticks are within the sum of the free
 -- times.
-pub held-free : (b : Busy) (xs : List Span) → length (b .free) ≡ 64 → All (Proper 64) xs → Chain b xs
+pub held-free : (b : FreeTimes) (xs : List Span) → length (b .free) ≡ 64 → All (Proper 64) xs → Chain b xs
     → sum (map holds (map chunkOf xs)) + sum (b .free) ≤ sum (afters b (map chunkOf xs) .free)
 unfolding sum afters
 held-free b [] l p h = omega arith

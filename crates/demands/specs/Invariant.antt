@@ -13,12 +13,12 @@ use Rattle.shares.specs.Model.{sum, finish}
 use Rattle.shares.specs.Lists.{Positive}
 use Rattle.booking.specs.Best.{units}
 use Rattle.walk.specs.declared.Job.{Job}
-use Rattle.walk.specs.declared.Terms.{Terms}
-use Rattle.walk.specs.declared.Busy.{Busy}
+use Rattle.walk.specs.declared.WalkTerms.{WalkTerms}
+use Rattle.walk.specs.declared.FreeTimes.{FreeTimes}
 use Rattle.walk.specs.declared.Chunk.{Chunk}
 use Rattle.planner.specs.declared.Farm.{Farm}
 use Rattle.answers.specs.declared.Offer.{Offer}
-use Rattle.planner.specs.Model.{greatest, mostHeld, between, costsWithin, finishOf, Span, linesOf, spansOf, spansOfAll, Sized, afters, waitingOf, busyOf, termsOf, busyAfter, byDeadline, plan, Between}
+use Rattle.planner.specs.Model.{greatest, mostHeld, between, costsWithin, finishOf, Span, linesOf, spansOf, spansOfAll, Sized, afters, waitingOf, freeTimesOf, walkTermsOf, freeTimesAfter, byDeadline, plan, Between}
 use Rattle.planner.specs.Passes.{passesOf}
 use Rattle.walk.specs.Chain.{Chain, chain-append, Proper, job-finish, afters-length}
 use Rattle.walk.specs.Order.{by-deadline-perm}
@@ -28,7 +28,7 @@ use Rattle.demands.specs.QuestionEleven.{passes-iff}
 use Rattle.planner.specs.Calls.{ofNumber, without, openedWith, showsWithin, openFarm, heldBy, newJob, planned, withPlan, withdrawnFarm}
 use Rattle.planner.specs.Changes.{queue-waits}
 use Rattle.demands.specs.OfferPasses.{all-replicate, opens-with, open-sized, open-passes, accepted-sized, accepted-passes}
-use Rattle.planner.specs.Clock.{holds, linesOfAll, begun, left, issued, movedFarm}
+use Rattle.planner.specs.Clock.{holds, linesOfAll, begun, waitingOn, issued, movedFarm}
 use Rattle.demands.specs.CallLists.{Call, Accepted, Noted, nothing, accepting, withdrawing, moving, handed, noted, History, chunkOf, opening, noting, note, run, heldOf, upTo, acceptedOf}
 use Rattle.timetable.specs.BeginSteps.{afters-append}
 use Rattle.demands.specs.BegunJobs.{begun-left, lines-joined, lines-all, spans-append, spans-chunks}
@@ -40,7 +40,7 @@ use Rattle.demands.specs.Outcome.{taken, Takes, Leaves, Outcome, stays, 
 -- ---- The invariant
 
 -- the free times before any chunk
-abbrev pub idle : Busy
+abbrev pub idle : FreeTimes
 idle = record { link = 0; free = replicate 64 0 }
 
 -- what is kept of a job, begun or waiting: its show, its compute cost, its shares, and its chunks by its deadline
@@ -67,7 +67,7 @@ pub record Inv (w : History) : Type 0 where
   pub spans : w .spans ≡ spansOfAll (w .farm .costs) past
   pub chain : Chain idle (w .spans)
   -- the farm's free times and held ticks are what it left
-  pub busy : busyOf (w .farm) ≡ afters idle (w .lines)
+  pub times : freeTimesOf (w .farm) ≡ afters idle (w .lines)
   pub held : (s : ℕ) → Between 1 s 32 → heldBy (w .farm) s ≡ heldOf s (w .lines)
   -- each accepted job was withdrawn, has begun or waits
   pub jobs : List·Permᴰ (w .jobs) (gone ++ map acceptedOf (past ++ waitingOf (w .farm)))
@@ -102,7 +102,7 @@ opened-inv n c al z e = record {
   lines = refl;
   spans = refl;
   chain = tt;
-  busy = refl;
+  times = refl;
   held = λ s h. getD-replicate 32 (s - 1) 0 0 (omega arith);
   jobs = List·Permᴰ·nil;
   named = List·Permᴰ·nil;
@@ -144,17 +144,17 @@ stays-note w c h q =
 -- ---- An accepted offer
 
 -- A plan keeps what the jobs were accepted as.
-pub plan-accepted : (w : Terms) (b : Busy) (js : List Job) → map acceptedOf (plan w b js) ≡ map acceptedOf js
+pub plan-accepted : (w : WalkTerms) (b : FreeTimes) (js : List Job) → map acceptedOf (plan w b js) ≡ map acceptedOf js
 unfolding plan
 plan-accepted w b [] = refl
-plan-accepted w b (j ∷ js) = ap (λ (l : List Accepted). acceptedOf j ∷ l) (plan-accepted w (busyAfter w b j) js)
+plan-accepted w b (j ∷ js) = ap (λ (l : List Accepted). acceptedOf j ∷ l) (plan-accepted w (freeTimesAfter w b j) js)
 
 -- A walk of any queue keeps what its jobs were accepted as.
-pub queue-accepted : (w : Terms) (b : Busy) (js : List Job) → List·Permᴰ (map acceptedOf js) (map acceptedOf (plan w b (byDeadline js)))
+pub queue-accepted : (w : WalkTerms) (b : FreeTimes) (js : List Job) → List·Permᴰ (map acceptedOf js) (map acceptedOf (plan w b (byDeadline js)))
 queue-accepted w b js = subst (List·Permᴰ (map acceptedOf js)) (sym (plan-accepted w b (byDeadline js))) (Permᴰ·map acceptedOf (by-deadline-perm js))
 
 -- Where the queue is the waiting jobs and new ones, each accepted job was withdrawn, has begun or is planned after the walk.
-walked-jobs : (w : Terms) (b : Busy) (jobs gone new : List Accepted) (past ws js : List Job) → map acceptedOf js ≡ map acceptedOf ws ++ new → List·Permᴰ jobs (gone ++ map acceptedOf (past ++ ws))
+walked-jobs : (w : WalkTerms) (b : FreeTimes) (jobs gone new : List Accepted) (past ws js : List Job) → map acceptedOf js ≡ map acceptedOf ws ++ new → List·Permᴰ jobs (gone ++ map acceptedOf (past ++ ws))
     → List·Permᴰ (jobs ++ new) (gone ++ map acceptedOf (past ++ plan w b (byDeadline js)))
 walked-jobs w b jobs gone new past ws js e h =
     let begun′ = map acceptedOf past in
@@ -194,9 +194,9 @@ module _ (w : History) (o : Offer) where
         lines = i .lines;
         spans = i .spans;
         chain = i .chain;
-        busy = i .busy;
+        times = i .times;
         held = i .held;
-        jobs = subst (λ (l : List Job). List·Permᴰ (w .jobs ++ taken f o ∷ []) (i .gone ++ map acceptedOf (i .past ++ l))) (sym now) (walked-jobs (termsOf f) (busyOf f) (w .jobs) (i .gone) (taken f o ∷ []) (i .past) (waitingOf f) (waitingOf f ++ newJob f o ∷ []) (map-join acceptedOf (waitingOf f) (newJob f o ∷ [])) (i .jobs));
+        jobs = subst (λ (l : List Job). List·Permᴰ (w .jobs ++ taken f o ∷ []) (i .gone ++ map acceptedOf (i .past ++ l))) (sym now) (walked-jobs (walkTermsOf f) (freeTimesOf f) (w .jobs) (i .gone) (taken f o ∷ []) (i .past) (waitingOf f) (waitingOf f ++ newJob f o ∷ []) (map-join acceptedOf (waitingOf f) (newJob f o ∷ [])) (i .jobs));
         named = i .named;
         numbers = taken-numbers (i .numbers);
         latest = subst (All (λ (j : Job). List·Memᴰ j (planned f o))) (sym now) (all-of (planned f o) (λ j m. m));
@@ -246,7 +246,7 @@ module _ (w : History) (n : ℕ) where
           lines = i .lines;
           spans = i .spans;
           chain = i .chain;
-          busy = i .busy;
+          times = i .times;
           held = i .held;
           jobs = subst (λ (l : List Job). List·Permᴰ (w .jobs) (acceptedOf leaver ∷ (i .gone ++ map acceptedOf (i .past ++ l)))) (sym now) departed-jobs;
           named = departed-named;
@@ -262,8 +262,8 @@ pub spans-issued : (w : History) → Inv w → map chunkOf (w .spans) ≡ w .lin
 spans-issued w i = ap (map chunkOf) (i .spans) ∙ spans-chunks (w .farm .costs) (i .past) ∙ sym (i .lines)
 
 -- The farm's free times are what the spans left.
-pub busy-spans : (w : History) → Inv w → busyOf (w .farm) ≡ afters idle (map chunkOf (w .spans))
-busy-spans w i = i .busy ∙ ap (afters idle) (sym (spans-issued w i))
+pub times-spans : (w : History) → Inv w → freeTimesOf (w .farm) ≡ afters idle (map chunkOf (w .spans))
+times-spans w i = i .times ∙ ap (afters idle) (sym (spans-issued w i))
 
 -- The spans of whole jobs are proper.
 pub whole-proper : (c : FarmCosts) (n : ℕ) (js : List Job) → All (Whole c n) js → All (Proper 64) (spansOfAll c js)
@@ -314,7 +314,7 @@ pub issued-within-free : (w : History) → Inv w → sum (map holds (w .lines)) 
 issued-within-free w i =
     let c = w .farm .costs in
     let lines : sum (map holds (w .lines)) ≡ sum (map holds (linesOfAll c (i .past))) = ap (λ (l : List Chunk). sum (map holds l)) (i .lines) in
-    let free : sum (w .farm .free) ≡ sum (afters idle (linesOfAll c (i .past)) .free) = ap (λ (b : Busy). sum (b .free)) (i .busy ∙ ap (afters idle) (i .lines)) in
+    let free : sum (w .farm .free) ≡ sum (afters idle (linesOfAll c (i .past)) .free) = ap (λ (b : FreeTimes). sum (b .free)) (i .times ∙ ap (afters idle) (i .lines)) in
     omega (arith, lines, free, held-within-free c (w .farm .shows) (i .past) (i .whole) (subst (Chain idle) (i .spans) (i .chain)))
 
 -- ---- A granted clock move
@@ -343,10 +343,10 @@ module _ (w : History) (t : ℕ) where
     all-chain : Chain idle (w .spans ++ spansOfAll (w .farm .costs) (begun (w .farm) t))
     all-chain =
         chain-append idle (w .spans) (spansOfAll (w .farm .costs) (begun (w .farm) t)) .1
-        (i .chain, subst (λ (b : Busy). Chain b (spansOfAll (w .farm .costs) (begun (w .farm) t))) (busy-spans w i) (moved-chain (w .farm) (i .sized) (i .passes) t .0))
+        (i .chain, subst (λ (b : FreeTimes). Chain b (spansOfAll (w .farm .costs) (begun (w .farm) t))) (times-spans w i) (moved-chain (w .farm) (i .sized) (i .passes) t .0))
 
-    moved-busy : busyOf (movedFarm (w .farm) t) ≡ afters idle (w .lines ++ issued (w .farm) t)
-    moved-busy = ap (λ (b : Busy). afters b (issued (w .farm) t)) (i .busy) ∙ sym (afters-append idle (w .lines) (issued (w .farm) t))
+    moved-times : freeTimesOf (movedFarm (w .farm) t) ≡ afters idle (w .lines ++ issued (w .farm) t)
+    moved-times = ap (λ (b : FreeTimes). afters b (issued (w .farm) t)) (i .times) ∙ sym (afters-append idle (w .lines) (issued (w .farm) t))
 
     begun-shows : All (λ (x : Chunk). Between 1 (x .show) (length (w .farm .held))) (issued (w .farm) t)
     begun-shows =
@@ -375,43 +375,43 @@ module _ (w : History) (t : ℕ) where
             omega (arith, held-limit (w .farm .costs) (w .farm .shows) (suc n) (i .past ++ begun (w .farm) t) moved-whole (subst (Chain idle) moved-spans all-chain))
 
     -- the free times are within the time range
-    busy-within : (movedFarm (w .farm) t .link ≤ greatest) × All (λ (x : ℕ). x ≤ greatest) (movedFarm (w .farm) t .free)
-    busy-within =
-        subst (λ (b : Busy). (b .link ≤ greatest) × All (λ (x : ℕ). x ≤ greatest) (b .free)) (sym (moved-busy ∙ ap (afters idle) moved-lines))
+    times-within : (movedFarm (w .farm) t .link ≤ greatest) × All (λ (x : ℕ). x ≤ greatest) (movedFarm (w .farm) t .free)
+    times-within =
+        subst (λ (b : FreeTimes). (b .link ≤ greatest) × All (λ (x : ℕ). x ≤ greatest) (b .free)) (sym (moved-times ∙ ap (afters idle) moved-lines))
         (free-limits (w .farm .costs) (w .farm .shows) (i .past ++ begun (w .farm) t) moved-whole)
 
-    moved-jobs : List·Permᴰ (w .jobs) (i .gone ++ map acceptedOf ((i .past ++ begun (w .farm) t) ++ left (w .farm) t))
+    moved-jobs : List·Permᴰ (w .jobs) (i .gone ++ map acceptedOf ((i .past ++ begun (w .farm) t) ++ waitingOn (w .farm) t))
     moved-jobs =
         let f = w .farm in
         List·Permᴰ·trans (i .jobs)
         (Permᴰ·append-left (i .gone)
-        (subst (λ (l : List Job). List·Permᴰ (map acceptedOf (i .past ++ waitingOf f)) (map acceptedOf l)) (sym (append-assoc (i .past) (begun f t) (left f t)))
+        (subst (λ (l : List Job). List·Permᴰ (map acceptedOf (i .past ++ waitingOf f)) (map acceptedOf l)) (sym (append-assoc (i .past) (begun f t) (waitingOn f t)))
         (Permᴰ·map acceptedOf (Permᴰ·append-left (i .past) (begun-left f t)))))
 
-    moved-latest : All (λ (j : Job). List·Memᴰ j (w .latest)) (left (w .farm) t)
+    moved-latest : All (λ (j : Job). List·Memᴰ j (w .latest)) (waitingOn (w .farm) t)
     moved-latest =
         let f = w .farm in
         let P : Job → Type 0 = λ (j : Job). List·Memᴰ j (w .latest) in
-        all-append P (begun f t) (left f t) (perm-all P (begun-left f t) (i .latest)) .1
+        all-append P (begun f t) (waitingOn f t) (perm-all P (begun-left f t) (i .latest)) .1
 
     -- A granted clock move keeps the invariant.
     moves-inv : t ≤ greatest → Inv moved
     moves-inv limit =
         let f = w .farm in
-        let after : waitingOf (movedFarm f t) ≡ left f t = moved-waiting f (i .sized) (i .passes) t in
+        let after : waitingOf (movedFarm f t) ≡ waitingOn f t = moved-waiting f (i .sized) (i .passes) t in
         let size = moved-sized f (i .sized) (i .passes) t in
         record {
           past = i .past ++ begun f t;
           gone = i .gone;
           sized = size;
           passes = passes-iff (movedFarm f t) size .1
-              (moved-passes f (i .sized) (i .passes) t limit (all-take (λ (x : ℕ). x ≤ mostHeld) (f .shows) (movedFarm f t .held) held-within) (busy-within .0)
-              (all-take (λ (x : ℕ). x ≤ greatest) (f .nodes) (movedFarm f t .free) (busy-within .1)));
+              (moved-passes f (i .sized) (i .passes) t limit (all-take (λ (x : ℕ). x ≤ mostHeld) (f .shows) (movedFarm f t .held) held-within) (times-within .0)
+              (all-take (λ (x : ℕ). x ≤ greatest) (f .nodes) (movedFarm f t .free) (times-within .1)));
           whole = moved-whole;
           lines = moved-lines;
           spans = moved-spans;
           chain = all-chain;
-          busy = moved-busy;
+          times = moved-times;
           held = moved-held;
           jobs = subst (λ (l : List Job). List·Permᴰ (w .jobs) (i .gone ++ map acceptedOf ((i .past ++ begun f t) ++ l))) (sym after) moved-jobs;
           named = i .named;

@@ -19,7 +19,7 @@ use Rattle.planner.specs.declared.Farm.{Farm}
 use Rattle.answers.specs.declared.Offer.{Offer}
 use Rattle.walk.specs.declared.ChunkTerms.{ChunkTerms}
 use Rattle.walk.specs.Model.{chunkTerms, chunkOn}
-use Rattle.planner.specs.Model.{costsFor, ownCosts, Span, chunksFrom, linesOf, spansOfAll, Sized, waitingOf, busyOf, termsOf, byDeadline, plan}
+use Rattle.planner.specs.Model.{costsFor, ownCosts, Span, chunksFrom, linesOf, spansOfAll, Sized, waitingOf, freeTimesOf, walkTermsOf, byDeadline, plan}
 use Rattle.planner.specs.Passes.{passesOf}
 use Rattle.walk.specs.Chain.{chunks-finish}
 use Rattle.walk.specs.Chunks.{lines-each}
@@ -28,7 +28,7 @@ use Rattle.soundness.specs.Sweep.{spans-all}
 use Rattle.planner.specs.Calls.{hasNumber, ofNumber, without, newJob, planned, withPlan, withdrawnFarm}
 use Rattle.planner.specs.Changes.{withQueue, queue-waits}
 use Rattle.demands.specs.WalkPasses.{plan-queue-numbers}
-use Rattle.planner.specs.Clock.{startsBy, startsAfter, linesOfAll, begun, left, issued, movedFarm}
+use Rattle.planner.specs.Clock.{startsBy, startsAfter, linesOfAll, begun, waitingOn, issued, movedFarm}
 use Rattle.demands.specs.CallLists.{Call, Accepted, Noted, withdrawing, moving, handed, noted, History, note, linesFor, unitsIn, acceptedOf, Fulfils, Waits, NoneOf, IssuesNone, Lifecycle, waits, passes, begins, withdrawn}
 use Rattle.lists.specs.Keep.{keep-all}
 use Rattle.demands.specs.BegunJobs.{begun-left, lines-all}
@@ -155,7 +155,7 @@ pub record NoLongerWaits (n : ℕ) (f : Farm) : Type 0 where
   pub none : All (λ (j : Job). j .number ≡ n → ⊥) (waitingOf f)
 
 -- the numbers of the jobs that begin differ from those that wait on
-begun-differ : (f : Farm) (t : ℕ) → Sized f → passesOf f ≡ true → Differ (map numberOfJob (begun f t ++ left f t))
+begun-differ : (f : Farm) (t : ℕ) → Sized f → passesOf f ≡ true → Differ (map numberOfJob (begun f t ++ waitingOn f t))
 begun-differ f t z e = perm-pairs (λ (a b : ℕ). a ≡ b → ⊥) (λ a b n q. n (sym q)) (Permᴰ·map numberOfJob (begun-left f t)) (waiting-differ f z e)
 
 -- what the numbers of two groups of jobs tell
@@ -184,10 +184,10 @@ module _ (xs ys : List Job) (d : Differ (map numberOfJob (xs ++ ys))) where
 
 module _ (n : ℕ) (f : Farm) (z : Sized f) (e : passesOf f ≡ true) where
   -- Nor does it wait after a walk of any queue that has no job of its number,
-  no-longer-walks : (u : ℕ) (js : List Job) → n ≤ u → All (λ (j : Job). j .number ≡ n → ⊥) js → NoLongerWaits n (withQueue f u (plan (termsOf f) (busyOf f) (byDeadline js)))
+  no-longer-walks : (u : ℕ) (js : List Job) → n ≤ u → All (λ (j : Job). j .number ≡ n → ⊥) js → NoLongerWaits n (withQueue f u (plan (walkTermsOf f) (freeTimesOf f) (byDeadline js)))
   no-longer-walks u js h none = record {
     used = h;
-    none = subst (All (λ (j : Job). j .number ≡ n → ⊥)) (sym (queue-waits f u (plan (termsOf f) (busyOf f) (byDeadline js)))) (plan-queue-numbers (λ (a : ℕ). a ≡ n → ⊥) (termsOf f) (busyOf f) js none);
+    none = subst (All (λ (j : Job). j .number ≡ n → ⊥)) (sym (queue-waits f u (plan (walkTermsOf f) (freeTimesOf f) (byDeadline js)))) (plan-queue-numbers (λ (a : ℕ). a ≡ n → ⊥) (walkTermsOf f) (freeTimesOf f) js none);
   }
 
   -- as that of an offer has none.
@@ -204,7 +204,7 @@ module _ (n : ℕ) (f : Farm) (z : Sized f) (e : passesOf f ≡ true) where
   no-longer-moves : (t : ℕ) → NoLongerWaits n f → NoneOf n (issued f t) × NoLongerWaits n (movedFarm f t)
   no-longer-moves t g =
       let P : Job → Type 0 = λ (j : Job). j .number ≡ n → ⊥ in
-      let both = all-append P (begun f t) (left f t) (perm-all P (begun-left f t) (g .none)) in (
+      let both = all-append P (begun f t) (waitingOn f t) (perm-all P (begun-left f t) (g .none)) in (
         none-of-jobs (f .costs) n (begun f t) (both .0),
         record { used = g .used; none = subst (All P) (sym (moved-waiting f z e t)) (both .1) },
       )
@@ -234,7 +234,7 @@ issues-no-more n w (c ∷ cs) i g =
 pub begun-no-longer-waits : (f : Farm) (t : ℕ) (j : Job) → Sized f → passesOf f ≡ true → List·Memᴰ j (begun f t) → NoLongerWaits (j .number) (movedFarm f t)
 begun-no-longer-waits f t j z e m = record {
   used = at-member (λ (i : Job). Waiting f i × (startsBy t i ≡ true)) m (begun-jobs f z e t) .0 .within .number .1;
-  none = subst (All (λ (i : Job). i .number ≡ j .number → ⊥)) (sym (moved-waiting f z e t)) (none-behind (begun f t) (left f t) (begun-differ f t z e) j m);
+  none = subst (All (λ (i : Job). i .number ≡ j .number → ⊥)) (sym (moved-waiting f z e t)) (none-behind (begun f t) (waitingOn f t) (begun-differ f t z e) j m);
 }
 
 -- So it is of a job that is withdrawn.
@@ -254,9 +254,9 @@ among-waits : (x : Accepted) (f : Farm) → Sized f → passesOf f ≡ true → 
 among-waits x f z e m = let r = from-image acceptedOf (waitingOf f) m in waits-as f (r .it) x z e (r .among) (r .image)
 
 -- A job of any queue that is walked waits after it, as it was accepted,
-pub among-walks : (x : Accepted) (f : Farm) (u : ℕ) (js : List Job) → List·Memᴰ x (map acceptedOf js) → Among x (withQueue f u (plan (termsOf f) (busyOf f) (byDeadline js)))
+pub among-walks : (x : Accepted) (f : Farm) (u : ℕ) (js : List Job) → List·Memᴰ x (map acceptedOf js) → Among x (withQueue f u (plan (walkTermsOf f) (freeTimesOf f) (byDeadline js)))
 among-walks x f u js m =
-    subst (λ (l : List Job). List·Memᴰ x (map acceptedOf l)) (sym (queue-waits f u (plan (termsOf f) (busyOf f) (byDeadline js)))) (perm-mem (queue-accepted (termsOf f) (busyOf f) js) m)
+    subst (λ (l : List Job). List·Memᴰ x (map acceptedOf l)) (sym (queue-waits f u (plan (walkTermsOf f) (freeTimesOf f) (byDeadline js)))) (perm-mem (queue-accepted (walkTermsOf f) (freeTimesOf f) js) m)
 
 -- so that an accepted job waits on over an offer.
 among-takes : (x : Accepted) (f : Farm) (o : Offer) → Among x f → Among x (withPlan f (planned f o))
@@ -296,25 +296,25 @@ module _ (x : Accepted) (w : History) (c : Call) (cs : List Call) (i : Inv w) wh
         let r = from-image acceptedOf (begun f t) m in
         let j = r .it in
         let n : j .number ≡ x .number = ap (λ (y : Accepted). y .number) (r .image) in
-        let in′ : List·Memᴰ j (waitingOf f) = perm-mem (Permᴰ·symm (begun-left f t)) (mem-left (left f t) (r .among)) in
+        let in′ : List·Memᴰ j (waitingOf f) = perm-mem (Permᴰ·symm (begun-left f t)) (mem-left (waitingOn f t) (r .among)) in
         let by = at-member (λ (b : Job). Waiting f b × (startsBy t b ≡ true)) (r .among) (begun-jobs f (i .sized) (i .passes) t) .1 in
-        let own = lines-own (f .costs) (begun f t) j (front-differ (begun f t) (left f t) (begun-differ f t (i .sized) (i .passes))) (r .among) in
+        let own = lines-own (f .costs) (begun f t) j (front-differ (begun f t) (waitingOn f t) (begun-differ f t (i .sized) (i .passes))) (r .among) in
         begins {c = c} (waits-as f j x (i .sized) (i .passes) in′ (r .image)) (record { time = t; moves = ap (λ (y : Noted). y .times) q; start = leb-true (j .booking .start) t by })
         (ap (linesFor (x .number)) lines-are ∙ ap (λ (a : ℕ). linesFor a (issued f t)) (sym n) ∙ own)
         (issues-no-more (x .number) (note w c) cs (note-inv w c i)
         (subst (λ (a : ℕ). NoLongerWaits a (handed f c)) n (subst (NoLongerWaits (j .number)) (sym h) (begun-no-longer-waits f t j (i .sized) (i .passes) (r .among)))))
 
     -- the job waits on over this move
-    lifecycle-passes : List·Memᴰ x (map acceptedOf (left (w .farm) t)) → Rest → Lifecycle x (w .farm) (c ∷ cs)
+    lifecycle-passes : List·Memᴰ x (map acceptedOf (waitingOn (w .farm) t)) → Rest → Lifecycle x (w .farm) (c ∷ cs)
     lifecycle-passes m rest =
         let f = w .farm in
-        let r = from-image acceptedOf (left f t) m in
+        let r = from-image acceptedOf (waitingOn f t) m in
         let j = r .it in
         let n : j .number ≡ x .number = ap (λ (y : Accepted). y .number) (r .image) in
         let in′ : List·Memᴰ j (waitingOf f) = perm-mem (Permᴰ·symm (begun-left f t)) (mem-right (begun f t) (r .among)) in
         let late = at-member (λ (b : Job). Waiting f b × (startsAfter t b ≡ true)) (r .among) (keep-all (startsAfter t) (Waiting f) (waitingOf f) (waiting-jobs f (i .sized) (i .passes))) .1 in
         let none : NoneOf (j .number) (issued f t) =
-        none-of-jobs (f .costs) (j .number) (begun f t) (none-before (begun f t) (left f t) (begun-differ f t (i .sized) (i .passes)) j (r .among)) in
+        none-of-jobs (f .costs) (j .number) (begun f t) (none-before (begun f t) (waitingOn f t) (begun-differ f t (i .sized) (i .passes)) j (r .among)) in
         passes {c = c} (waits-as f j x (i .sized) (i .passes) in′ (r .image))
         (λ u. let same : t ≡ u .time = one-same (sym (ap (λ (y : Noted). y .times) q) ∙ u .moves) in omega (arith, u .start, leb-false (j .booking .start) t (not-true (startsBy t j) late)))
         (λ u. none-some (x .number) (ap (λ (y : Noted). y .gone) q) u)
@@ -355,7 +355,7 @@ module _ (x : Accepted) (w : History) (c : Call) (cs : List Call) (i : Inv w) wh
   lifecycle-step m rest (moves t n k h q) =
       ⊎-elim (λ l. lifecycle-begins t h q l) (λ l. lifecycle-passes t h q l rest)
       (List·Memᴰ·append-cases (map acceptedOf (begun (w .farm) t))
-      (subst (List·Memᴰ x) (map-join acceptedOf (begun (w .farm) t) (left (w .farm) t)) (perm-mem (Permᴰ·map acceptedOf (begun-left (w .farm) t)) m)))
+      (subst (List·Memᴰ x) (map-join acceptedOf (begun (w .farm) t) (waitingOn (w .farm) t)) (perm-mem (Permᴰ·map acceptedOf (begun-left (w .farm) t)) m)))
 
 -- Each job that waits is withdrawn, or issued by the first granted clock move to reach the start it has then, and never again.
 pub lifecycle : (x : Accepted) (w : History) (cs : List Call) → Inv w → Among x (w .farm) → Lifecycle x (w .farm) cs

@@ -13,9 +13,9 @@ use Rattle.walk.specs.declared.Job.{Job}
 use Rattle.walk.specs.declared.Chunk.{Chunk}
 use Rattle.planner.specs.declared.Farm.{Farm}
 use Rattle.walk.specs.Model.{chunkTerms}
-use Rattle.planner.specs.Model.{greatest, mostHeld, linesOf, spansOf, spansOfAll, JobSized, Sized, afters, fitAll, byStart, waitingOf, busyOf, Apart}
+use Rattle.planner.specs.Model.{greatest, mostHeld, linesOf, spansOf, spansOfAll, JobSized, Sized, afters, fitAll, byStart, waitingOf, freeTimesOf, Apart}
 use Rattle.soundness.specs.Model.{jobsPass, allDiffer}
-use Rattle.planner.specs.Passes.{figuresOf, numbersOf, waitingPass, passesOf, JobWithin, JobSound, Passes}
+use Rattle.planner.specs.Passes.{boundsOf, jobNumbers, waitingPass, passesOf, JobWithin, JobSound, Passes}
 use Rattle.planner.specs.PassesSteps.{farmWithin, usable}
 use Rattle.walk.specs.Chain.{Fits, fit-all-chain, Chain, chain-append, Proper, afters-length, chain-follows, chain-apart}
 use Rattle.walk.specs.Order.{by-start-perm}
@@ -25,7 +25,7 @@ use Rattle.demands.specs.QuestionEleven.{passes-iff}
 use Rattle.timetable.specs.LinesSteps.{lines-length}
 use Rattle.limits.specs.Tests.{and-both}
 use Rattle.planner.specs.Changes.{atTime, jobs-within, time-within, queue-sized, time-sized, queue-waits}
-use Rattle.planner.specs.Clock.{raised, startsBy, startsAfter, begun, left, linesOfAll, issued, movedFarm}
+use Rattle.planner.specs.Clock.{raised, startsBy, startsAfter, begun, waitingOn, linesOfAll, issued, movedFarm}
 use Rattle.lists.specs.Keep.{keep-all, keep-length}
 use Rattle.timetable.specs.HeldSteps.{raised-length}
 use Rattle.demands.specs.BegunJobs.{later, begun-later, later-left, begun-left, spans-append, spans-chunks}
@@ -34,8 +34,8 @@ use Rattle.queue.specs.Numbers.{numberOfJob}
 -- what is known of a waiting job of a farm that passes
 pub record Waiting (f : Farm) (j : Job) : Type 0 where
   pub sized : JobSized j
-  pub within : JobWithin (figuresOf f) j
-  pub sound : JobSound (figuresOf f) (busyOf f) j
+  pub within : JobWithin (boundsOf f) j
+  pub sound : JobSound (boundsOf f) (freeTimesOf f) j
   pub paired : Paired j
   pub proper : All (Proper 64) (spansOf (f .costs) j)
 
@@ -44,21 +44,21 @@ module _ (f : Farm) (sized : Sized f) (e : passesOf f ≡ true) where
   pub waiting-jobs : All (Waiting f) (waitingOf f)
   waiting-jobs =
       let p = passes-iff f sized .0 e in
-      let both : All (λ (j : Job). JobWithin (figuresOf f) j × JobSound (figuresOf f) (busyOf f) j) (waitingOf f) = all-both (λ j a b. (a, b)) (waitingOf f) (p .jobs) (p .sound .jobs) in
+      let both : All (λ (j : Job). JobWithin (boundsOf f) j × JobSound (boundsOf f) (freeTimesOf f) j) (waitingOf f) = all-both (λ j a b. (a, b)) (waitingOf f) (p .jobs) (p .sound .jobs) in
       all-both (λ j s h. record {
         sized = s;
         within = h .0;
         sound = h .1;
-        paired = job-paired (figuresOf f) j s (h .0);
-        proper = job-spans (figuresOf f) j (usable f (p .within)) (h .0) (h .1 .each);
+        paired = job-paired (boundsOf f) j s (h .0);
+        proper = job-spans (boundsOf f) j (usable f (p .within)) (h .0) (h .1 .each);
       }) (waitingOf f) (all-take JobSized (f .waiting) (f .jobs) (sized .each)) both
 
   -- The booked spans in order of start are a chain behind the farm's free times.
-  pub booked-chain : Chain (busyOf f) (spansOfAll (f .costs) (byStart (waitingOf f)))
+  pub booked-chain : Chain (freeTimesOf f) (spansOfAll (f .costs) (byStart (waitingOf f)))
   unfolding passesOf waitingPass
-  booked-chain = fit-all-chain (busyOf f) (spansOfAll (f .costs) (byStart (waitingOf f))) .0
-      (and-both (jobsPass (figuresOf f) (waitingOf f) && allDiffer (numbersOf (waitingOf f))) (fitAll (busyOf f) (spansOfAll (f .costs) (byStart (waitingOf f))))
-      (and-both (farmWithin f) (waitingPass (figuresOf f) (busyOf f) (waitingOf f)) e .1) .1)
+  booked-chain = fit-all-chain (freeTimesOf f) (spansOfAll (f .costs) (byStart (waitingOf f))) .0
+      (and-both (jobsPass (boundsOf f) (waitingOf f) && allDiffer (jobNumbers (waitingOf f))) (fitAll (freeTimesOf f) (spansOfAll (f .costs) (byStart (waitingOf f))))
+      (and-both (farmWithin f) (waitingPass (boundsOf f) (freeTimesOf f) (waitingOf f)) e .1) .1)
 
   -- The waiting jobs have different numbers.
   pub waiting-differ : Differ (map numberOfJob (waitingOf f))
@@ -66,13 +66,13 @@ module _ (f : Farm) (sized : Sized f) (e : passesOf f ≡ true) where
 
   module _ (t : ℕ) where
     -- A move leaves the chain as it is, and what it begins is a front of it.
-    pub moved-chain : Chain (busyOf f) (spansOfAll (f .costs) (begun f t)) × Chain (afters (busyOf f) (issued f t)) (spansOfAll (f .costs) (later f t))
+    pub moved-chain : Chain (freeTimesOf f) (spansOfAll (f .costs) (begun f t)) × Chain (afters (freeTimesOf f) (issued f t)) (spansOfAll (f .costs) (later f t))
     moved-chain =
         let c = f .costs in
-        let h : Chain (busyOf f) (spansOfAll c (begun f t) ++ spansOfAll c (later f t)) =
-        subst (Chain (busyOf f)) (ap (spansOfAll c) (begun-later f t) ∙ spans-append c (begun f t) (later f t)) booked-chain in
-        let r = chain-append (busyOf f) (spansOfAll c (begun f t)) (spansOfAll c (later f t)) .0 h in
-        (r .0, subst (λ (l : List Chunk). Chain (afters (busyOf f) l) (spansOfAll c (later f t))) (spans-chunks c (begun f t)) (r .1))
+        let h : Chain (freeTimesOf f) (spansOfAll c (begun f t) ++ spansOfAll c (later f t)) =
+        subst (Chain (freeTimesOf f)) (ap (spansOfAll c) (begun-later f t) ∙ spans-append c (begun f t) (later f t)) booked-chain in
+        let r = chain-append (freeTimesOf f) (spansOfAll c (begun f t)) (spansOfAll c (later f t)) .0 h in
+        (r .0, subst (λ (l : List Chunk). Chain (afters (freeTimesOf f) l) (spansOfAll c (later f t))) (spans-chunks c (begun f t)) (r .1))
 
     -- What begins had been booked, and starts by t.
     pub begun-jobs : All (λ (j : Job). Waiting f j × (startsBy t j ≡ true)) (begun f t)
@@ -82,39 +82,39 @@ module _ (f : Farm) (sized : Sized f) (e : passesOf f ≡ true) where
     pub later-jobs : All (λ (j : Job). Waiting f j × (startsAfter t j ≡ true)) (later f t)
     later-jobs = keep-all (startsAfter t) (Waiting f) (byStart (waitingOf f)) (perm-all (Waiting f) (by-start-perm (waitingOf f)) waiting-jobs)
 
-    left-few : length (left f t) ≤ f .waiting
+    left-few : length (waitingOn f t) ≤ f .waiting
     left-few =
         let w = passes-iff f sized .0 e .within .waiting in
         omega (arith, keep-length (startsAfter t) (waitingOf f), length-take-le (f .waiting) (f .jobs) (omega (arith, sized .jobs)))
 
     -- The waiting jobs after a move are those that it left.
-    pub moved-waiting : waitingOf (movedFarm f t) ≡ left f t
-    moved-waiting = queue-waits f (f .used) (left f t)
+    pub moved-waiting : waitingOf (movedFarm f t) ≡ waitingOn f t
+    moved-waiting = queue-waits f (f .used) (waitingOn f t)
 
     -- the farm at the time of the move, what begins taken into its free times and held ticks
     abbrev timed : Farm
-    timed = atTime f t (afters (busyOf f) (issued f t)) (raised (f .held) (issued f t))
+    timed = atTime f t (afters (freeTimesOf f) (issued f t)) (raised (f .held) (issued f t))
 
-    few : length (left f t) ≤ 128
+    few : length (waitingOn f t) ≤ 128
     few = omega (arith, left-few, passes-iff f sized .0 e .within .waiting)
 
     -- A move hands back a farm with its arrays.
     pub moved-sized : Sized (movedFarm f t)
     moved-sized =
-        queue-sized timed (f .used) (left f t)
-        (time-sized f t (afters (busyOf f) (issued f t)) (raised (f .held) (issued f t)) sized (afters-length (busyOf f) (issued f t) ∙ sized .free) (raised-length (f .held) (issued f t) ∙ sized .held))
+        queue-sized timed (f .used) (waitingOn f t)
+        (time-sized f t (afters (freeTimesOf f) (issued f t)) (raised (f .held) (issued f t)) sized (afters-length (freeTimesOf f) (issued f t) ∙ sized .free) (raised-length (f .held) (issued f t) ∙ sized .held))
         few (perm-all JobSized (later-left f t) (all-map (λ j h. h .0 .sized) (later f t) later-jobs))
 
     later-proper : All (Proper 64) (spansOfAll (f .costs) (later f t))
     later-proper = spans-all (Proper 64) (f .costs) (later f t) (all-map (λ j h. h .0 .proper) (later f t) later-jobs)
 
-    later-sound : All (JobSound (figuresOf (movedFarm f t)) (busyOf (movedFarm f t))) (later f t)
+    later-sound : All (JobSound (boundsOf (movedFarm f t)) (freeTimesOf (movedFarm f t))) (later f t)
     later-sound =
-        let b = afters (busyOf f) (issued f t) in
+        let b = afters (freeTimesOf f) (issued f t) in
         let fits = spans-each (Fits b) (f .costs) (later f t)
         (chain-follows b (spansOfAll (f .costs) (later f t)) (moved-sized .free) later-proper .0 (moved-chain .1) .0) in
         all-both (λ j h k.
-        let q = fits-behind (busyOf (movedFarm f t)) (f .costs) j (h .0 .paired) k in
+        let q = fits-behind (freeTimesOf (movedFarm f t)) (f .costs) j (h .0 .paired) k in
         record {
           clock = omega (arith, leb-false (j .booking .start) t (not-true (startsBy t j) (h .1)));
           link = q .0;
@@ -134,16 +134,16 @@ module _ (f : Farm) (sized : Sized f) (e : passesOf f ≡ true) where
         let d = later-left f t in
         record {
           opened = old .opened;
-          within = jobs-within timed (f .used) (length (left f t)) (farm .jobs) (time-within f t (afters (busyOf f) (issued f t)) (raised (f .held) (issued f t)) w by link free held) (w .used) few;
-          jobs = subst (All (JobWithin (figuresOf farm))) (sym moved-waiting) (perm-all (JobWithin (figuresOf farm)) d
+          within = jobs-within timed (f .used) (length (waitingOn f t)) (farm .jobs) (time-within f t (afters (freeTimesOf f) (issued f t)) (raised (f .held) (issued f t)) w by link free held) (w .used) few;
+          jobs = subst (All (JobWithin (boundsOf farm))) (sym moved-waiting) (perm-all (JobWithin (boundsOf farm)) d
               (all-map (λ j h. let x = h .0 .within in record { number = x .number; show = x .show; size = x .size; compute = x .compute; deadline = x .deadline; start = x .start; count = x .count; nodes = x .nodes }) (later f t) later-jobs));
           sound = record {
-            jobs = subst (All (JobSound (figuresOf farm) (busyOf farm))) (sym moved-waiting) (perm-all (JobSound (figuresOf farm) (busyOf farm)) d later-sound);
+            jobs = subst (All (JobSound (boundsOf farm) (freeTimesOf farm))) (sym moved-waiting) (perm-all (JobSound (boundsOf farm) (freeTimesOf farm)) d later-sound);
             apart = subst (λ (l : List Job). Pairs Apart (spansOfAll (f .costs) l)) (sym moved-waiting)
-                (perm-pairs Apart apart-sym (spans-perm (f .costs) d) (chain-apart (afters (busyOf f) (issued f t)) (spansOfAll (f .costs) (later f t)) (moved-sized .free) later-proper (moved-chain .1)));
+                (perm-pairs Apart apart-sym (spans-perm (f .costs) d) (chain-apart (afters (freeTimesOf f) (issued f t)) (spansOfAll (f .costs) (later f t)) (moved-sized .free) later-proper (moved-chain .1)));
             differ = subst (λ (l : List Job). Differ (map numberOfJob l)) (sym moved-waiting)
-                (pairs-parts (λ (a b : ℕ). a ≡ b → ⊥) (map numberOfJob (begun f t)) (map numberOfJob (left f t))
-                (subst Differ (map-join numberOfJob (begun f t) (left f t))
+                (pairs-parts (λ (a b : ℕ). a ≡ b → ⊥) (map numberOfJob (begun f t)) (map numberOfJob (waitingOn f t))
+                (subst Differ (map-join numberOfJob (begun f t) (waitingOn f t))
                 (perm-pairs (λ (a b : ℕ). a ≡ b → ⊥) (λ a b n q. n (sym q)) (Permᴰ·map numberOfJob (begun-left f t)) waiting-differ)) .1);
           };
         }

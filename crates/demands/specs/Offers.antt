@@ -12,7 +12,7 @@ use Rattle.limits.specs.Says.{says-between}
 use Rattle.walk.specs.BestWalk.{BestAll, Fails, walk-is}
 use Rattle.planner.specs.declared.Farm.{Farm}
 use Rattle.answers.specs.declared.Offer.{Offer}
-use Rattle.planner.specs.Model.{greatest, termsOf, busyOf}
+use Rattle.planner.specs.Model.{greatest, walkTermsOf, freeTimesOf}
 use Rattle.planner.specs.Calls.{refused, offerOf, offerWith, computeOf, newJob, queueOf, planned, accepts, withPlan, offerAsked, offerSaid, offerFarm, OfferGranted}
 use Rattle.planner.specs.CallsSteps.{asked-none, walk-ready}
 use Rattle.planner.specs.OfferSteps.{offer-granted, offer-offered}
@@ -38,9 +38,9 @@ absent-as-given f s z d = (refl, refl)
 -- behind those before it, and then the next farm holds exactly that plan; otherwise some job has no choice at all behind the best of those before it,
 -- and the offer is refused with 8, the farm as it was.
 pub offer-is : (f : Farm) (o : Offer) → f .nodes ≤ length (f .free) → offerAsked f o ≡ 0
-    → ((accepts f o ≡ true) × BestAll (termsOf f) (busyOf f) (queueOf f o) × (offerSaid f o .number ≡ 0) × (offerFarm f o ≡ withPlan f (planned f o)))
-    ⊎ ((accepts f o ≡ false) × Fails (termsOf f) (busyOf f) (queueOf f o) × (offerSaid f o ≡ refused 8) × (offerFarm f o ≡ f))
+    → ((accepts f o ≡ true) × BestAll (walkTermsOf f) (freeTimesOf f) (queueOf f o) × (offerSaid f o .number ≡ 0) × (offerFarm f o ≡ withPlan f (planned f o)))
+    ⊎ ((accepts f o ≡ false) × Fails (walkTermsOf f) (freeTimesOf f) (queueOf f o) × (offerSaid f o ≡ refused 8) × (offerFarm f o ≡ f))
 unfolding offerSaid offerFarm
 offer-is f o h e =
     ⊎-elim (λ x. inl (x .0, x .1, rw (e, x .0), rw (e, x .0))) (λ x. inr (x .0, x .1, rw (e, x .0), rw (e, x .0)))
-    (walk-is (termsOf f) (busyOf f) (queueOf f o) (walk-ready f (newJob f o) (offer-offered f o (offer-granted f o e))) h)
+    (walk-is (walkTermsOf f) (freeTimesOf f) (queueOf f o) (walk-ready f (newJob f o) (offer-offered f o (offer-granted f o e))) h)

@@ -15,7 +15,7 @@ use Rattle.walk.specs.declared.Job.{Job}
 use Rattle.walk.specs.declared.Chunk.{Chunk}
 use Rattle.planner.specs.declared.Farm.{Farm}
 use Rattle.answers.specs.declared.Offer.{Offer}
-use Rattle.planner.specs.Model.{linesOf, spansOf, spansOfAll, Sized, byStart, waitingOf, busyOf, termsOf}
+use Rattle.planner.specs.Model.{linesOf, spansOf, spansOfAll, Sized, byStart, waitingOf, freeTimesOf, walkTermsOf}
 use Rattle.planner.specs.Passes.{passesOf}
 use Rattle.walk.specs.Chunks.{lines-each}
 use Rattle.walk.specs.Order.{by-start-perm, by-deadline-perm}
@@ -100,7 +100,7 @@ new-number f o =
     let j = newJob f o in
     let m : List·Memᴰ j (queueOf f o) = perm-mem (List·Permᴰ·trans (List·Permᴰ·append-comm (j ∷ []) ws) (by-deadline-perm (ws ++ j ∷ []))) (List·Memᴰ·head refl) in
     of-number-has (f .used + 1) (planned f o)
-    (has-number (planned f o) (f .used + 1) (subst (List·Memᴰ (f .used + 1)) (sym (plan-numbers (termsOf f) (busyOf f) (queueOf f o))) (mem-image numberOfJob m)))
+    (has-number (planned f o) (f .used + 1) (subst (List·Memᴰ (f .used + 1)) (sym (plan-numbers (walkTermsOf f) (freeTimesOf f) (queueOf f o))) (mem-image numberOfJob m)))
 
 -- Its questions are answered yes and its walk books all; its plan replaces the old one, and its job and its plan are
 -- noted.

@@ -11,8 +11,8 @@ use Rattle.walk.specs.declared.Job.{Job}
 use Rattle.soundness.specs.Sweep.{spans-perm, apart-sym}
 use Rattle.soundness.specs.Sound.{says-waiting}
 use Rattle.planner.specs.declared.Farm.{Farm}
-use Rattle.planner.specs.Model.{spansOfAll, waitingOf, busyOf, JobSized, Sized, Apart}
-use Rattle.planner.specs.Passes.{countsWithin, timesWithin, figuresOf, passesOf, JobWithin, JobSound, Within, Passes}
+use Rattle.planner.specs.Model.{spansOfAll, waitingOf, freeTimesOf, JobSized, Sized, Apart}
+use Rattle.planner.specs.Passes.{countsWithin, timesWithin, boundsOf, passesOf, JobWithin, JobSound, Within, Passes}
 use Rattle.planner.specs.PassesSteps.{farmWithin, usable, says-within}
 use Rattle.planner.specs.Changes.{withJobs, jobs-within}
 use Rattle.demands.specs.BegunJobs.{spans-append}
@@ -25,7 +25,7 @@ says-passes : (f : Farm) → Sized f → Says (passesOf f) (Passes f)
 unfolding passesOf
 says-passes f z =
     says-as (λ h. record { opened = h .0 .0; within = h .0 .1; jobs = h .1 .0; sound = h .1 .1 }) (λ p. ((p .opened, p .within), (p .jobs, p .sound)))
-    (says-then (says-farm f) (λ p. says-waiting (figuresOf f) (busyOf f) (waitingOf f) (usable f (p .1)) (z .free) (all-take JobSized (f .waiting) (f .jobs) (z .each))))
+    (says-then (says-farm f) (λ p. says-waiting (boundsOf f) (freeTimesOf f) (waitingOf f) (usable f (p .1)) (z .free) (all-take JobSized (f .waiting) (f .jobs) (z .each))))
 
 -- **Question 11.** The test passes exactly if the farm is opened, each figure is within its limits and the waiting bookings are sound.
 pub passes-iff : (f : Farm) → Sized f → (passesOf f ≡ true) ↔ Passes f
@@ -42,9 +42,9 @@ fewer-pass f n gone js few d p =
     record {
       opened = p .opened;
       within = jobs-within f (f .used) n js (p .within) (p .within .used) few;
-      jobs = all-append (JobWithin (figuresOf f)) gone rest (perm-all (JobWithin (figuresOf f)) d (p .jobs)) .1;
+      jobs = all-append (JobWithin (boundsOf f)) gone rest (perm-all (JobWithin (boundsOf f)) d (p .jobs)) .1;
       sound = record {
-        jobs = all-append (JobSound (figuresOf f) (busyOf f)) gone rest (perm-all (JobSound (figuresOf f) (busyOf f)) d (p .sound .jobs)) .1;
+        jobs = all-append (JobSound (boundsOf f) (freeTimesOf f)) gone rest (perm-all (JobSound (boundsOf f) (freeTimesOf f)) d (p .sound .jobs)) .1;
         apart = pairs-parts Apart (spansOfAll c gone) (spansOfAll c rest) (subst (Pairs Apart) (spans-append c gone rest) (perm-pairs Apart apart-sym (spans-perm c d) (p .sound .apart))) .1;
         differ = pairs-parts (λ (a b : ℕ). a ≡ b → ⊥) (numbers gone) (numbers rest)
             (subst Differ (map-join (λ (j : Job). j .number) gone rest) (perm-pairs (λ (a b : ℕ). a ≡ b → ⊥) (λ a b k e. k (sym e)) (Permᴰ·map (λ (j : Job). j .number) d) (p .sound .differ))) .1;

@@ -41,7 +41,7 @@ first-send P f j w a =
     first-chunk (λ (x : Span). P x × Proper 64 x) (chunkTerms (f .costs) j) (j .booking .start) (j .booking .start) (chosen (j .booking)) (units (j .booking)) (w .paired .0) (omega (arith, w .paired .1))
     (all-both (λ x p q. (p, q)) (spansOf (f .costs) j) a (w .proper))
 
--- Sends that share no tick begin at different ones.
+-- Sendable that share no tick begin at different ones.
 sends-differ : (x y : Span) → Apart x y → Proper 64 x → Proper 64 y → x .chunk .start ≡ y .chunk .start → ⊥
 sends-differ x y a p q e = a .send (x .chunk .start) (omega arith, p .sends) (omega (arith, e), omega (arith, e, q .sends))
 

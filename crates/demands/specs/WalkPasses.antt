@@ -14,11 +14,11 @@ use Rattle.booking.specs.Model.{bookingOf}
 use Rattle.booking.specs.Best.{chosen, units, Feasible}
 use Rattle.booking.specs.Booked.{some-share}
 use Rattle.walk.specs.declared.Job.{Job}
-use Rattle.walk.specs.declared.Terms.{Terms}
-use Rattle.walk.specs.declared.Busy.{Busy}
+use Rattle.walk.specs.declared.WalkTerms.{WalkTerms}
+use Rattle.walk.specs.declared.FreeTimes.{FreeTimes}
 use Rattle.planner.specs.declared.Farm.{Farm}
-use Rattle.planner.specs.Model.{greatest, defaultCosts, ownCosts, spansOfAll, JobSized, Sized, busyOf, termsOf, requestOf, step, byDeadline, plan, booksAll, Apart, Between}
-use Rattle.planner.specs.Passes.{figuresOf, JobWithin, JobSound, Within, Passes}
+use Rattle.planner.specs.Model.{greatest, defaultCosts, ownCosts, spansOfAll, JobSized, Sized, freeTimesOf, walkTermsOf, requestOf, step, byDeadline, plan, booksAll, Apart, Between}
+use Rattle.planner.specs.Passes.{boundsOf, JobWithin, JobSound, Within, Passes}
 use Rattle.planner.specs.Changes.{withQueue, jobs-within, queue-sized, queue-waits}
 use Rattle.walk.specs.Chain.{Fits, Chain, Proper, chain-follows, chain-apart}
 use Rattle.walk.specs.Chunks.{finish-shares}
@@ -42,8 +42,8 @@ pub record HeadWithin (u s : ℕ) (j : Job) : Type 0 where
 
 -- a job of a plan: its figures within the farm's limits, its booking kept, and arrays of their lengths
 pub record Planned (f : Farm) (j : Job) : Type 0 where
-  pub within : JobWithin (figuresOf f) j
-  pub kept : JobKept (figuresOf f) j
+  pub within : JobWithin (boundsOf f) j
+  pub kept : JobKept (boundsOf f) j
   pub paired : Paired j
   pub sized : JobSized j
 
@@ -62,10 +62,10 @@ booking-sized j e h k =
     }
 
 -- A feasible booking of a job whose other figures are within the limits is one of a plan.
-pub feasible-planned : (f : Farm) (b : Busy) (j : Job) → f .nodes ≤ 64 → CostsWithin (f .costs) → length (b .free) ≡ 64 → HeadWithin (f .used) (f .shows) j
-    → Feasible (requestOf (termsOf f) b j) (b .free) (step (termsOf f) b j .booking) → Planned f (step (termsOf f) b j)
+pub feasible-planned : (f : Farm) (b : FreeTimes) (j : Job) → f .nodes ≤ 64 → CostsWithin (f .costs) → length (b .free) ≡ 64 → HeadWithin (f .used) (f .shows) j
+    → Feasible (requestOf (walkTermsOf f) b j) (b .free) (step (walkTermsOf f) b j .booking) → Planned f (step (walkTermsOf f) b j)
 feasible-planned f b j n r l h x =
-    let w = termsOf f in
+    let w = walkTermsOf f in
     let q = step w b j .booking in
     let k = x .choice in
     let s = feasible-sends w b j n r (omega arith) (h .deadline) (h .compute .1) x in
@@ -96,10 +96,10 @@ pub record WalksAll (f : Farm) (u : ℕ) (js : List Job) : Type 0 where
   pub few : length js ≤ 128
   pub heads : All (HeadWithin u (f .shows)) js
   pub differ : Differ (map numberOfJob js)
-  pub books : booksAll (termsOf f) (busyOf f) (byDeadline js) ≡ true
+  pub books : booksAll (walkTermsOf f) (freeTimesOf f) (byDeadline js) ≡ true
 
 -- The numbers of a plan are those of its queue.
-pub plan-queue-numbers : (P : ℕ → Type 0) (w : Terms) (b : Busy) (js : List Job) → All (λ (j : Job). P (j .number)) js → All (λ (j : Job). P (j .number)) (plan w b (byDeadline js))
+pub plan-queue-numbers : (P : ℕ → Type 0) (w : WalkTerms) (b : FreeTimes) (js : List Job) → All (λ (j : Job). P (j .number)) js → All (λ (j : Job). P (j .number)) (plan w b (byDeadline js))
 plan-queue-numbers P w b js h =
     image-all P numberOfJob (plan w b (byDeadline js))
     (subst (All P) (sym (plan-numbers w b (byDeadline js))) (all-image P numberOfJob (byDeadline js) (perm-all (λ (j : Job). P (j .number)) (by-deadline-perm js) h)))
@@ -107,7 +107,7 @@ plan-queue-numbers P w b js h =
 module _ (f : Farm) (u : ℕ) (js : List Job) (sized : Sized f) (x : WalksAll f u js) where
   -- its plan, and the farm that has it
   abbrev planOf : List Job
-  planOf = plan (termsOf f) (busyOf f) (byDeadline js)
+  planOf = plan (walkTermsOf f) (freeTimesOf f) (byDeadline js)
 
   abbrev next : Farm
   next = withQueue f u planOf
@@ -118,55 +118,55 @@ module _ (f : Farm) (u : ℕ) (js : List Job) (sized : Sized f) (x : WalksAll f 
   heads : All (HeadWithin u (f .shows)) (byDeadline js)
   heads = perm-all (HeadWithin u (f .shows)) (by-deadline-perm js) (x .heads)
 
-  feasible : FeasibleAll (termsOf f) (busyOf f) (byDeadline js)
+  feasible : FeasibleAll (walkTermsOf f) (freeTimesOf f) (byDeadline js)
   feasible =
-      books-feasible (termsOf f) (busyOf f) (byDeadline js) (answered (defaultCosts (f .costs)) (f .nodes) (figures .costs .send .0) (figures .nodes .1)) (omega (arith, sized .free, figures .nodes .1))
+      books-feasible (walkTermsOf f) (freeTimesOf f) (byDeadline js) (answered (defaultCosts (f .costs)) (f .nodes) (figures .costs .send .0) (figures .nodes .1)) (omega (arith, sized .free, figures .nodes .1))
       (all-map (λ j h. h .size .0) (byDeadline js) heads) (x .books)
 
   -- Each job of the plan is within its limits and kept.
   jobs-planned : All (Planned next) planOf
   jobs-planned =
-      plan-all (HeadWithin u (f .shows)) (Planned next) (termsOf f) (busyOf f) (byDeadline js)
+      plan-all (HeadWithin u (f .shows)) (Planned next) (walkTermsOf f) (freeTimesOf f) (byDeadline js)
       (λ b j l h y. feasible-planned next b j (figures .nodes .1) (figures .costs) l h y) (sized .free) heads feasible
 
   count : length planOf ≡ length js
-  count = plan-length (termsOf f) (busyOf f) (byDeadline js) ∙ sym (perm-length (by-deadline-perm js))
+  count = plan-length (walkTermsOf f) (freeTimesOf f) (byDeadline js) ∙ sym (perm-length (by-deadline-perm js))
 
   -- The farm with the plan has its arrays.
-  pub walked-sized : Sized (withQueue f u (plan (termsOf f) (busyOf f) (byDeadline js)))
+  pub walked-sized : Sized (withQueue f u (plan (walkTermsOf f) (freeTimesOf f) (byDeadline js)))
   walked-sized = queue-sized f u planOf sized (omega (arith, count, x .few)) (all-map (λ j h. h .sized) planOf jobs-planned)
 
   spans-proper : All (Proper 64) (spansOfAll (f .costs) planOf)
   spans-proper =
       spans-all (Proper 64) (f .costs) planOf
-      (all-map (λ j h. job-spans (figuresOf next) j (record { nodes = figures .nodes .1; costs = figures .costs }) (h .within) (h .kept .each)) planOf jobs-planned)
+      (all-map (λ j h. job-spans (boundsOf next) j (record { nodes = figures .nodes .1; costs = figures .costs }) (h .within) (h .kept .each)) planOf jobs-planned)
 
-  chain : Chain (busyOf f) (spansOfAll (f .costs) planOf)
-  chain = plan-chain (termsOf f) (busyOf f) (byDeadline js) feasible
+  chain : Chain (freeTimesOf f) (spansOfAll (f .costs) planOf)
+  chain = plan-chain (walkTermsOf f) (freeTimesOf f) (byDeadline js) feasible
 
   -- Each job of the plan is behind the farm's free times.
-  jobs-behind : All (Behind (busyOf f)) planOf
+  jobs-behind : All (Behind (freeTimesOf f)) planOf
   jobs-behind =
-      let fits = spans-each (Fits (busyOf f)) (f .costs) planOf (chain-follows (busyOf f) (spansOfAll (f .costs) planOf) (sized .free) spans-proper .0 chain .0) in
-      all-both (λ j h k. fits-behind (busyOf f) (f .costs) j (h .paired) k) planOf jobs-planned fits
+      let fits = spans-each (Fits (freeTimesOf f)) (f .costs) planOf (chain-follows (freeTimesOf f) (spansOfAll (f .costs) planOf) (sized .free) spans-proper .0 chain .0) in
+      all-both (λ j h k. fits-behind (freeTimesOf f) (f .costs) j (h .paired) k) planOf jobs-planned fits
 
   numbers-differ : Differ (map numberOfJob planOf)
   numbers-differ =
-      subst Differ (sym (plan-numbers (termsOf f) (busyOf f) (byDeadline js)))
+      subst Differ (sym (plan-numbers (walkTermsOf f) (freeTimesOf f) (byDeadline js)))
       (perm-pairs (λ (a b : ℕ). a ≡ b → ⊥) (λ a b n e. n (sym e)) (Permᴰ·map numberOfJob (by-deadline-perm js)) (x .differ))
 
   -- It passes question 11.
-  pub walked-passes : Passes (withQueue f u (plan (termsOf f) (busyOf f) (byDeadline js)))
+  pub walked-passes : Passes (withQueue f u (plan (walkTermsOf f) (freeTimesOf f) (byDeadline js)))
   walked-passes =
       let waits = queue-waits f u planOf in
       record {
         opened = x .passes .opened;
         within = jobs-within f u (length planOf) (next .jobs) figures (x .used) (omega (arith, count, x .few));
-        jobs = subst (All (JobWithin (figuresOf next))) (sym waits) (all-map (λ j h. h .within) planOf jobs-planned);
+        jobs = subst (All (JobWithin (boundsOf next))) (sym waits) (all-map (λ j h. h .within) planOf jobs-planned);
         sound = record {
-          jobs = subst (All (JobSound (figuresOf next) (busyOf next))) (sym waits)
+          jobs = subst (All (JobSound (boundsOf next) (freeTimesOf next))) (sym waits)
               (all-both (λ j h b. record { clock = h .kept .clock; link = b .0; free = b .1; each = h .kept .each; all = h .kept .all; ends = h .kept .ends }) planOf jobs-planned jobs-behind);
-          apart = subst (λ (l : List Job). Pairs Apart (spansOfAll (f .costs) l)) (sym waits) (chain-apart (busyOf f) (spansOfAll (f .costs) planOf) (sized .free) spans-proper chain);
+          apart = subst (λ (l : List Job). Pairs Apart (spansOfAll (f .costs) l)) (sym waits) (chain-apart (freeTimesOf f) (spansOfAll (f .costs) planOf) (sized .free) spans-proper chain);
           differ = subst (λ (l : List Job). Differ (map numberOfJob l)) (sym waits) numbers-differ;
         };
       }

@@ -5,7 +5,13 @@ ghost use mathlib.Core.Path.{_≡_};
 ghost use lib.Dec.{leb, ltb};
 ghost use lib.ListN.{take};
 ghost use Rattle.limits.specs.Model.{greatest, between, allAtMost, costsWithin};
-use numbers::least;
+use numbers::smaller_size;
+
+// The greatest tick, allowance and count of job numbers.
+pub const GREATEST: u64 = 1_000_000_000_000;
+
+// The most ticks that a show may hold: 64 nodes over the whole time range.
+pub const MOST_HELD: u64 = 64_000_000_000_000;
 
 // What a farm costs, in ticks: to send a unit (document 01's m), to compute a unit (p), to set up a send on the link
 // (ST), to set up a node (SC), and to bring an encoded unit back on the node's return line (r).
@@ -42,7 +48,7 @@ pub fn between(low: u64, x: u64, high: u64) -> bool
 pub fn all_at_most(xs: &[u64], count: usize, limit: u64) -> bool
     ensures { λ r. ⌜ r ≡ allAtMost limit (take count (now (xs .entry))) ⌝ }
 {
-    let n = least(count, xs.len());
+    let n = smaller_size(count, xs.len());
     let mut i = 0;
     while i < n {
         if limit < xs[i] {
@@ -75,7 +81,7 @@ pub fn deadline_within(clock: u64, deadline: u64) -> bool
     if deadline <= clock {
         return false;
     }
-    deadline <= 1000000000000
+    deadline <= GREATEST
 }
 
 // Whether fewer than 128 jobs wait and a job number is left.
@@ -85,5 +91,5 @@ pub fn place_left(waiting: usize, used: u64) -> bool
     if 128 <= waiting {
         return false;
     }
-    used < 1000000000000
+    used < GREATEST
 }

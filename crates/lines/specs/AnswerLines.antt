@@ -9,7 +9,7 @@ use lib.Dec.{eqb}
 use lib.ListN.{length, getD, take, replicate, length-map}
 use lib.Seq.{take-all, take-at, take-suc}
 use Rattle.walk.specs.declared.Chunk.{Chunk}
-use Rattle.timetable.specs.Model.{rowOf}
+use Rattle.timetable.specs.Model.{chunkRow}
 use Rattle.answers.specs.declared.Answer.{Answer}
 use Rattle.answers.specs.declared.Answer.the-variants as answer
 use Rattle.planner.specs.Calls.{Said, said}
@@ -99,12 +99,12 @@ row-next xs i l h k t a b =
     record { wrote = wrote-same more (wrote-join (a .wrote) k (b .wrote)); within = omega (arith, a .within, b .within) }
 
 -- They are the chunk lines of the records.
-row-texts : (xs : List Chunk) → rowTexts (map rowOf xs) ≡ chunkTexts xs
+row-texts : (xs : List Chunk) → rowTexts (map chunkRow xs) ≡ chunkTexts xs
 unfolding rowTexts chunkTexts
 row-texts [] = refl
 row-texts (x ∷ xs) = ap (λ (l : List ℕ). chunkText x ++ l) (row-texts xs)
 
 -- So are those of records at the front of the lent memory.
-pub front-texts : (xs : List Chunk) (rest rows : List (List ℕ)) (n : ℕ) → rows ≡ map rowOf xs ++ rest → length xs ≡ n → rowTexts (take n rows) ≡ chunkTexts xs
+pub front-texts : (xs : List Chunk) (rest rows : List (List ℕ)) (n : ℕ) → rows ≡ map chunkRow xs ++ rest → length xs ≡ n → rowTexts (take n rows) ≡ chunkTexts xs
 front-texts xs rest rows n e l =
-    ap (λ (r : List (List ℕ)). rowTexts (take n r)) e ∙ ap rowTexts (take-at (map rowOf xs) rest n (length-map xs rowOf ∙ l)) ∙ row-texts xs
+    ap (λ (r : List (List ℕ)). rowTexts (take n r)) e ∙ ap rowTexts (take-at (map chunkRow xs) rest n (length-map xs chunkRow ∙ l)) ∙ row-texts xs

@@ -8,7 +8,7 @@ use lib.ListN.{length, getD, drop, replicate}
 use Rattle.limits.specs.declared.FarmCosts.{FarmCosts}
 use Rattle.walk.specs.declared.Chunk.{Chunk}
 use Rattle.walk.specs.Model.{noChunk}
-use Rattle.timetable.specs.Model.{rowOf}
+use Rattle.timetable.specs.Model.{chunkRow}
 use Rattle.planner.specs.declared.Farm.{Farm}
 use Rattle.answers.specs.declared.ComputeCost.{ComputeCost}
 use Rattle.answers.specs.declared.ComputeCost.the-variants.{Absent, Given}
@@ -31,7 +31,7 @@ abbrev pub refusal : ℕ → List ℕ
 refusal n = lineText word.No (n ∷ [])
 
 -- the word of an answer's line. No line of the program asks for showing; the word of the lines that it writes stands for it.
-abbrev pub printedAs : calls.Word → Word
+abbrev pub printedAs : calls.SaidWord → Word
 printedAs calls.Open = word.Open
 printedAs calls.Yes = word.Yes
 printedAs calls.Clock = word.Clock
@@ -47,7 +47,7 @@ answerText s = cond (eqb (s .number) 0) (lineText (printedAs (s .word)) (s .valu
 
 -- `chunk` with the record's eight numbers
 abbrev pub chunkText : Chunk → List ℕ
-chunkText x = lineText word.Chunk (rowOf x)
+chunkText x = lineText word.Chunk (chunkRow x)
 
 unfoldable pub chunkTexts : List Chunk → List ℕ
 chunkTexts [] = []

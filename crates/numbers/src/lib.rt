@@ -3,7 +3,7 @@ ghost use mathlib.Core.Path.{_≡_};
 ghost use Prim.Native.Nat.{_-_, _<_, max, min};
 
 // The difference, and 0 where there is none.
-pub fn less(a: u64, b: u64) -> u64
+pub fn difference(a: u64, b: u64) -> u64
     ensures { λ r. ⌜ r ≡ a - b ⌝ }
 {
     if a < b {
@@ -33,7 +33,7 @@ pub fn smaller(a: u64, b: u64) -> u64
 }
 
 // The smaller of two counts.
-pub fn least(a: usize, b: usize) -> usize
+pub fn smaller_size(a: usize, b: usize) -> usize
     ensures { λ r. ⌜ r ≡ min a b ⌝ }
 {
     if a < b {

@@ -1,6 +1,6 @@
 -- The calls: what each answers, with the paper's number and values, and the farm that it hands back. Offers, questions and answers are those of the crate
 -- answers; which waiting job has a number, and the jobs without it, those of the crate queue.
-pub use Rattle.answers.specs.Model.{Word, Open, Yes, Clock, Shown, Account, Gone, Quote, No, Said, granted, refused, numberOf, said, yesOf, offerOf, offerWith, computeOr, asksOffer, quoteWord, asQuote}
+pub use Rattle.answers.specs.Model.{SaidWord, Open, Yes, Clock, Shown, Account, Gone, Quote, No, Said, granted, refused, numberOf, said, yesOf, offerOf, offerWith, computeOr, asksOffer, quoteWord, asQuote}
 unfoldable pub use Rattle.queue.specs.Model.{hasNumber, ofNumber, without}
 use Prim.Native.Nat.{ℕ, _+_, _-_, _≤_, _<_}
 use mathlib.Core.List.{List, [], _∷_, _++_}
@@ -14,7 +14,7 @@ use Rattle.walk.specs.declared.Job.{Job}
 use Rattle.planner.specs.declared.Farm.{Farm}
 use Rattle.answers.specs.declared.Offer.{Offer}
 use Rattle.planner.specs.declared.Reply.{Reply}
-use Rattle.planner.specs.Model.{greatest, between, Between, allAtMost, costsWithin, emptyJob, waitingOf, termsOf, busyOf, byDeadline, plan, booksAll}
+use Rattle.planner.specs.Model.{greatest, between, Between, allAtMost, costsWithin, emptyJob, waitingOf, walkTermsOf, freeTimesOf, byDeadline, plan, booksAll}
 use Rattle.planner.specs.Passes.{passesOf}
 use Rattle.planner.specs.Changes.{withQueue}
 
@@ -93,10 +93,10 @@ queueOf f o = byDeadline (waitingOf f ++ newJob f o ∷ [])
 
 -- the plan of the walk, and whether it books them all
 abbrev pub planned : Farm → Offer → List Job
-planned f o = plan (termsOf f) (busyOf f) (queueOf f o)
+planned f o = plan (walkTermsOf f) (freeTimesOf f) (queueOf f o)
 
 abbrev pub accepts : Farm → Offer → Bool
-accepts f o = booksAll (termsOf f) (busyOf f) (queueOf f o)
+accepts f o = booksAll (walkTermsOf f) (freeTimesOf f) (queueOf f o)
 
 -- the farm with one number more used, and the new plan in place of the old
 abbrev pub withPlan : Farm → List Job → Farm

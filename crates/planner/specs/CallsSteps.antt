@@ -24,7 +24,7 @@ use Rattle.planner.specs.declared.Decision.{Decision}
 use Rattle.answers.specs.declared.Question.{Question}
 use Rattle.answers.specs.declared.Question.the-variants as question
 use Rattle.answers.specs.declared.Answer.the-variants as answer
-use Rattle.planner.specs.Model.{greatest, between, costsWithin, defaultCosts, waitingOf, termsOf, busyOf, byDeadline}
+use Rattle.planner.specs.Model.{greatest, between, costsWithin, defaultCosts, waitingOf, walkTermsOf, freeTimesOf, byDeadline}
 use Rattle.planner.specs.Passes.{passesOf}
 use Rattle.planner.specs.PassesSteps.{passes-within, passes-jobs}
 use Rattle.planner.specs.Changes.{withJobs}
@@ -154,7 +154,7 @@ pub record Offered (f : Farm) (j : Job) : Type 0 where
 
 -- On a farm that passes, the walk has costs and nodes that the shares answer for, free times in the range, and jobs of at least a unit with
 -- deadlines in the range and compute costs within their limit.
-pub offer-ready : (f : Farm) (j : Job) → Offered f j → Ready (termsOf f) (busyOf f) (waitingOf f ++ j ∷ [])
+pub offer-ready : (f : Farm) (j : Job) → Offered f j → Ready (walkTermsOf f) (freeTimesOf f) (waitingOf f ++ j ∷ [])
 offer-ready f j o =
     let g = passes-within f (o .passes) in
     record {
@@ -165,7 +165,7 @@ offer-ready f j o =
           (all-map (λ x a. (a .0 .size .0, a .0 .deadline, a .0 .compute .1)) (waitingOf f) (passes-jobs f (o .passes))) ((o .size, o .deadline, o .compute), tt);
     }
 
-pub walk-ready : (f : Farm) (j : Job) → Offered f j → Ready (termsOf f) (busyOf f) (byDeadline (waitingOf f ++ j ∷ []))
+pub walk-ready : (f : Farm) (j : Job) → Offered f j → Ready (walkTermsOf f) (freeTimesOf f) (byDeadline (waitingOf f ++ j ∷ []))
 walk-ready f j o =
     let r = offer-ready f j o in
     record {

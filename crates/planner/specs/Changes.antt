@@ -8,7 +8,7 @@ use lib.ListN.{length, take, drop, length-append, length-drop, take-append-drop}
 use lib.Seq.{take-at}
 use Rattle.lists.specs.Laws.{All, all-append, all-join}
 use Rattle.walk.specs.declared.Job.{Job}
-use Rattle.walk.specs.declared.Busy.{Busy}
+use Rattle.walk.specs.declared.FreeTimes.{FreeTimes}
 use Rattle.planner.specs.declared.Farm.{Farm}
 use Rattle.planner.specs.Model.{greatest, mostHeld, JobSized, Sized, waitingOf}
 use Rattle.planner.specs.Passes.{Within}
@@ -37,7 +37,7 @@ abbrev pub withQueue : Farm → ℕ → List Job → Farm
 withQueue f u js = withJobs f u (length js) (js ++ drop (length js) (f .jobs))
 
 -- the farm at the tick t, with these free times and held ticks
-abbrev pub atTime : Farm → ℕ → Busy → List ℕ → Farm
+abbrev pub atTime : Farm → ℕ → FreeTimes → List ℕ → Farm
 atTime f t b hs = record {
   opened = f .opened;
   nodes = f .nodes;
@@ -82,7 +82,7 @@ pub jobs-keep : (f : Farm) (u n : ℕ) (js : List Job) → Keeps f (withJobs f u
 jobs-keep f u n js = record { opened = refl; nodes = refl; costs = refl; shows = refl; allowances = refl }
 
 -- and so do other times.
-pub time-keeps : (f : Farm) (t : ℕ) (b : Busy) (hs : List ℕ) → Keeps f (atTime f t b hs)
+pub time-keeps : (f : Farm) (t : ℕ) (b : FreeTimes) (hs : List ℕ) → Keeps f (atTime f t b hs)
 time-keeps f t b hs = record { opened = refl; nodes = refl; costs = refl; shows = refl; allowances = refl }
 
 -- ---- Within the limits
@@ -103,7 +103,7 @@ jobs-within f u n js w used few = record {
 }
 
 -- and other times where they are in the time range.
-pub time-within : (f : Farm) (t : ℕ) (b : Busy) (hs : List ℕ) → Within f → t ≤ greatest → b .link ≤ greatest → All (λ (x : ℕ). x ≤ greatest) (take (f .nodes) (b .free))
+pub time-within : (f : Farm) (t : ℕ) (b : FreeTimes) (hs : List ℕ) → Within f → t ≤ greatest → b .link ≤ greatest → All (λ (x : ℕ). x ≤ greatest) (take (f .nodes) (b .free))
     → All (λ (x : ℕ). x ≤ mostHeld) (take (f .shows) hs) → Within (atTime f t b hs)
 time-within f t b hs w clock link free held = record {
   nodes = w .nodes;
@@ -134,7 +134,7 @@ queue-sized f u js z few each =
     }
 
 -- and so do other times that are as many.
-pub time-sized : (f : Farm) (t : ℕ) (b : Busy) (hs : List ℕ) → Sized f → length (b .free) ≡ 64 → length hs ≡ 32 → Sized (atTime f t b hs)
+pub time-sized : (f : Farm) (t : ℕ) (b : FreeTimes) (hs : List ℕ) → Sized f → length (b .free) ≡ 64 → length hs ≡ 32 → Sized (atTime f t b hs)
 time-sized f t b hs z free held = record { allowances = z .allowances; held = held; free = free; jobs = z .jobs; each = z .each }
 
 -- The jobs of the queue are those that wait.

@@ -11,7 +11,7 @@ use lib.ListN.{length, drop}
 use Rattle.walk.specs.declared.Job.{Job}
 use Rattle.walk.specs.declared.Chunk.{Chunk}
 use Rattle.planner.specs.declared.Farm.{Farm}
-use Rattle.planner.specs.Model.{greatest, between, afters, byStart, waitingOf, busyOf}
+use Rattle.planner.specs.Model.{greatest, between, afters, byStart, waitingOf, freeTimesOf}
 use Rattle.planner.specs.Passes.{passesOf}
 use Rattle.planner.specs.Changes.{withQueue, atTime}
 use Rattle.planner.specs.Calls.{Clock, Shown, Said, granted, refused}
@@ -23,8 +23,8 @@ abbrev pub begun : Farm → ℕ → List Job
 begun f t = keep (startsBy t) (byStart (waitingOf f))
 
 -- the others wait on, in the order that they have
-abbrev pub left : Farm → ℕ → List Job
-left f t = keep (startsAfter t) (waitingOf f)
+abbrev pub waitingOn : Farm → ℕ → List Job
+waitingOn f t = keep (startsAfter t) (waitingOf f)
 
 -- the lines to be issued
 abbrev pub issued : Farm → ℕ → List Chunk
@@ -34,7 +34,7 @@ issued f t = linesOfAll (f .costs) (begun f t)
 
 -- the farm moved to t: what begins takes its free times and adds to the held ticks, and the others wait on
 abbrev pub movedFarm : Farm → ℕ → Farm
-movedFarm f t = withQueue (atTime f t (afters (busyOf f) (issued f t)) (raised (f .held) (issued f t))) (f .used) (left f t)
+movedFarm f t = withQueue (atTime f t (afters (freeTimesOf f) (issued f t)) (raised (f .held) (issued f t))) (f .used) (waitingOn f t)
 
 -- questions 11, 9 and 10 in that order, put to a move to t that is lent n records: the number of the first answered no, or 0
 unfoldable pub moveAsked : Farm → ℕ → ℕ → ℕ

@@ -12,11 +12,11 @@ use Rattle.lists.specs.Laws.{All, all-map, all-both, all-front, all-take, perm-
 use Rattle.limits.specs.declared.FarmCosts.{FarmCosts}
 use Rattle.booking.specs.Best.{chosen}
 use Rattle.walk.specs.declared.Job.{Job}
-use Rattle.walk.specs.declared.Busy.{Busy}
+use Rattle.walk.specs.declared.FreeTimes.{FreeTimes}
 use Rattle.walk.specs.declared.Chunk.{Chunk}
 use Rattle.keys.specs.declared.Key.{Key}
 use Rattle.walk.specs.Order.{by-start-perm}
-use Rattle.walk.specs.Chunks.{Sends}
+use Rattle.walk.specs.Chunks.{Sendable}
 use Rattle.timetable.specs.declared.Due.{Due}
 use Rattle.timetable.specs.BeginSteps.{chunks, Few, RaisesAll}
 use Rattle.timetable.specs.DueSteps.{IsDue}
@@ -31,12 +31,12 @@ use Rattle.answers.specs.declared.Question.the-variants as question
 use Rattle.answers.specs.declared.Answer.the-variants as answer
 use Rattle.planner.specs.declared.Move.{Move}
 use Rattle.planner.specs.declared.clock.Issue.{Issue}
-use Rattle.planner.specs.Model.{greatest, mostHeld, between, Between, noJob, afters, inOrder, byStart, waitingOf, busyOf, JobSized, Sized}
-use Rattle.planner.specs.Passes.{passesOf, figuresOf, JobWithin}
+use Rattle.planner.specs.Model.{greatest, mostHeld, between, Between, noJob, afters, inOrder, byStart, waitingOf, freeTimesOf, JobSized, Sized}
+use Rattle.planner.specs.Passes.{passesOf, boundsOf, JobWithin}
 use Rattle.planner.specs.PassesSteps.{passes-within, passes-jobs}
 use Rattle.planner.specs.Changes.{withJobs, atTime}
 use Rattle.planner.specs.Calls.{Clock, Shown, said, numberOf, granted, Replies}
-use Rattle.planner.specs.Clock.{keep, startsBy, startsAfter, linesOfAll, raised, begun, left, issued, movedFarm, moveAsked, moveSaid, moveFarm, moveMemory, moveLines, shown, shownAsked, shownSaid, shownMemory, shownLines}
+use Rattle.planner.specs.Clock.{keep, startsBy, startsAfter, linesOfAll, raised, begun, waitingOn, issued, movedFarm, moveAsked, moveSaid, moveFarm, moveMemory, moveLines, shown, shownAsked, shownSaid, shownMemory, shownLines}
 
 -- what questions 11, 9 and 10 ask, all answered yes
 pub record MoveGranted (f : Farm) (t n : ℕ) : Type 0 where
@@ -107,7 +107,7 @@ ordered-front f ordered sized w o =
 -- ---- Jobs that wait
 
 -- The chunks of a waiting job can be worked out.
-waiting-sends : (f : Farm) (j : Job) → f .nodes ≤ 64 → CostsWithin (f .costs) → JobSized j → JobWithin (figuresOf f) j → JobKept (figuresOf f) j → Sends (f .costs) j
+waiting-sends : (f : Farm) (j : Job) → f .nodes ≤ 64 → CostsWithin (f .costs) → JobSized j → JobWithin (boundsOf f) j → JobKept (boundsOf f) j → Sendable (f .costs) j
 waiting-sends f j n r z w k = record {
   few = w .count .1;
   nodes = length-take-le (j .booking .count) (j .booking .nodes) (omega (arith, z .nodes, w .count .1));
@@ -120,7 +120,7 @@ waiting-sends f j n r z w k = record {
 
 -- what the jobs of a list bring where they begin: chunks that can be worked out, shows with a cell, cells with room
 pub record CanBegin (f : Farm) (j : Job) : Type 0 where
-  pub sends : Sends (f .costs) j
+  pub sends : Sendable (f .costs) j
   pub show : (1 ≤ j .show) × (j .show ≤ 32)
   pub room : getD (f .held) (j .show - 1) 0 ≤ mostHeld
 
@@ -131,7 +131,7 @@ module _ (f : Farm) (sized : Sized f) (e : passesOf f ≡ true) where
   waiting-can-begin : All (CanBegin f) (waitingOf f)
   waiting-can-begin =
       let w = passes-within f e in
-      let room : (j : Job) → JobWithin (figuresOf f) j → getD (f .held) (j .show - 1) 0 ≤ mostHeld =
+      let room : (j : Job) → JobWithin (boundsOf f) j → getD (f .held) (j .show - 1) 0 ≤ mostHeld =
       λ j h.
       let i : j .show - 1 < f .shows = omega (arith, h .show) in
       all-front 0 (λ (x : ℕ). x ≤ mostHeld) (f .held) (f .shows) (j .show - 1) i (omega (arith, w .shows .1, sized .held)) (w .held) in
@@ -147,7 +147,7 @@ module _ (f : Farm) (sized : Sized f) (e : passesOf f ≡ true) where
   pub begun-can-begin : (t : ℕ) → All (CanBegin f) (begun f t)
   begun-can-begin t = all-map (λ j h. h .0) (begun f t) (keep-all (startsBy t) (CanBegin f) (byStart (waitingOf f)) by-start-can-begin)
 
-can-begin-sends : (f : Farm) (js : List Job) → All (CanBegin f) js → All (Sends (f .costs)) js
+can-begin-sends : (f : Farm) (js : List Job) → All (CanBegin f) js → All (Sendable (f .costs)) js
 can-begin-sends f js h = all-map (λ j a. a .sends) js h
 
 pub can-begin-few : (f : Farm) (js : List Job) → All (CanBegin f) js → All Few js
@@ -178,7 +178,7 @@ module _ (f : Farm) (t : ℕ) (d : Due) (sized : Sized f) (x : Begins f t d) whe
   begins-ready : All (CanBegin f) named
   begins-ready = subst (All (CanBegin f)) (sym (x .due .jobs)) (begun-can-begin f sized (x .passes) t)
 
-  pub begins-sends : All (Sends (f .costs)) named
+  pub begins-sends : All (Sendable (f .costs)) named
   begins-sends = can-begin-sends f named begins-ready
 
   pub begins-raises : RaisesAll (f .costs) (f .held) named
@@ -196,16 +196,16 @@ module _ (f : Farm) (t : ℕ) (d : Due) (sized : Sized f) (x : Begins f t d) whe
   begins-count = all-lines (f .costs) (begun f t) (can-begin-sends f (begun f t) (begun-can-begin f sized (x .passes) t)) ∙ sym (x .due .lines)
 
 -- The farm with what its parts come to is the moved farm.
-pub moved-is : (f : Farm) (t : ℕ) (ls : List Job) (b : Busy) (hs : List ℕ) (k : ℕ) (js : List Job) → ls ≡ begun f t
-    → b ≡ afters (busyOf f) (linesOfAll (f .costs) ls)
+pub moved-is : (f : Farm) (t : ℕ) (ls : List Job) (b : FreeTimes) (hs : List ℕ) (k : ℕ) (js : List Job) → ls ≡ begun f t
+    → b ≡ afters (freeTimesOf f) (linesOfAll (f .costs) ls)
     → hs ≡ raised (f .held) (linesOfAll (f .costs) ls)
-    → k ≡ length (left f t)
-    → js ≡ left f t ++ drop k (f .jobs)
+    → k ≡ length (waitingOn f t)
+    → js ≡ waitingOn f t ++ drop k (f .jobs)
     → withJobs (atTime f t b hs) (f .used) k js ≡ movedFarm f t
 moved-is f t ls b hs k js q e₁ e₂ e₃ e₄ =
-    let b′ : b ≡ afters (busyOf f) (issued f t) = e₁ ∙ ap (λ (l : List Job). afters (busyOf f) (linesOfAll (f .costs) l)) q in
+    let b′ : b ≡ afters (freeTimesOf f) (issued f t) = e₁ ∙ ap (λ (l : List Job). afters (freeTimesOf f) (linesOfAll (f .costs) l)) q in
     let h′ : hs ≡ raised (f .held) (issued f t) = e₂ ∙ ap (λ (l : List Job). raised (f .held) (linesOfAll (f .costs) l)) q in
-    let j′ : js ≡ left f t ++ drop (length (left f t)) (f .jobs) = e₄ ∙ ap (λ (i : ℕ). left f t ++ drop i (f .jobs)) e₃ in
+    let j′ : js ≡ waitingOn f t ++ drop (length (waitingOn f t)) (f .jobs) = e₄ ∙ ap (λ (i : ℕ). waitingOn f t ++ drop i (f .jobs)) e₃ in
     rw (b′, h′, j′, e₃)
 
 -- what a move on a farm that passes comes to before its lines are written
@@ -247,7 +247,7 @@ module _ (f : Farm) (t n : ℕ) (r : Move) (x : MoveDecides f t n r) where
 -- the lines of these jobs are due: they can be worked out, and there is room for them
 pub record LinesDue (c : FarmCosts) (ls : List Chunk) (room : ℕ) (r : Issue) : Type 0 where
   pub few : r .count ≤ 128
-  pub sends : All (Sends c) (take (r .count) (r .jobs))
+  pub sends : All (Sendable c) (take (r .count) (r .jobs))
   pub lines : linesOfAll c (take (r .count) (r .jobs)) ≡ ls
   pub fits : length ls ≤ room
 
@@ -283,7 +283,7 @@ move-goes f t n r jobs next sized e x g q m =
       replies = record { says = x .says; hands = m ∙ sym (k .0) };
       due = record {
         few = begins-few f t (r .due) sized b;
-        sends = subst (All (Sends (f .costs))) (sym q) (begins-sends f t (r .due) sized b);
+        sends = subst (All (Sendable (f .costs))) (sym q) (begins-sends f t (r .due) sized b);
         lines = ap (linesOfAll (f .costs)) q ∙ begins-lines f t (r .due) sized b ∙ sym (k .1);
         fits = subst (λ (l : List Chunk). length l ≤ n) (sym (k .1)) (k .2);
       };
@@ -311,21 +311,21 @@ move-stays f t n r jobs x g =
 
 -- the farm with another clock
 abbrev pub clockAt : Farm → ℕ → Farm
-clockAt f t = atTime f t (busyOf f) (f .held)
+clockAt f t = atTime f t (freeTimesOf f) (f .held)
 
 module _ (f : Farm) (t : ℕ) (few : f .waiting ≤ length (f .jobs)) (late : All (λ (j : Job). startsBy t j ≡ false) (waitingOf f)) where
   pub none-begun : begun f t ≡ []
   none-begun = keep-none (startsBy t) (byStart (waitingOf f)) (perm-all (λ (j : Job). startsBy t j ≡ false) (by-start-perm (waitingOf f)) late)
 
-  all-left : left f t ≡ waitingOf f
+  all-left : waitingOn f t ≡ waitingOf f
   all-left = keep-every (startsAfter t) (waitingOf f) (all-map (λ j e. ap not e) (waitingOf f) late)
 
   -- Only its clock changes.
   pub unbegun-farm : clockAt f t ≡ movedFarm f t
   unfolding raised afters linesOfAll
   unbegun-farm =
-      let count : length (left f t) ≡ f .waiting = ap length all-left ∙ length-take-le (f .waiting) (f .jobs) few in
-      let jobs : left f t ++ drop (length (left f t)) (f .jobs) ≡ f .jobs = rw (count, all-left) (take-append-drop (f .waiting) (f .jobs)) in
+      let count : length (waitingOn f t) ≡ f .waiting = ap length all-left ∙ length-take-le (f .waiting) (f .jobs) few in
+      let jobs : waitingOn f t ++ drop (length (waitingOn f t)) (f .jobs) ≡ f .jobs = rw (count, all-left) (take-append-drop (f .waiting) (f .jobs)) in
       rw (none-begun, jobs, count)
 
   pub none-issued : issued f t ≡ []
@@ -363,7 +363,7 @@ move-memory f t m = go (eqb (moveAsked f t (length m)) 0)
 
 -- What is due, with its costs and its jobs by themselves, as the writer asks for it and as it leaves the memory.
 module _ (c : FarmCosts) (ls : List Chunk) (n : ℕ) (r : Issue) (x : LinesDue c ls n r) (c′ : FarmCosts) (js : List Job) (e : c′ ≡ c) (q : js ≡ r .jobs) where
-  due-sends : All (Sends c′) (take (r .count) js)
+  due-sends : All (Sendable c′) (take (r .count) js)
   due-sends = rw (e, q) (x .sends)
 
   due-lines : linesOfAll c′ (take (r .count) js) ≡ ls
@@ -372,7 +372,7 @@ module _ (c : FarmCosts) (ls : List Chunk) (n : ℕ) (r : Issue) (x : LinesDue c
   due-count : chunks (take (r .count) js) ≡ length ls
   due-count = sym (all-lines c′ (take (r .count) js) due-sends) ∙ ap length due-lines
 
-  pub due-asks : (r .count ≤ 128) × All (Sends c′) (take (r .count) js) × (chunks (take (r .count) js) ≤ n)
+  pub due-asks : (r .count ≤ 128) × All (Sendable c′) (take (r .count) js) × (chunks (take (r .count) js) ≤ n)
   due-asks = (x .few, due-sends, omega (arith, due-count, x .fits))
 
   pub due-written : (m : List Chunk) → linesOfAll c′ (take (r .count) js) ++ drop (chunks (take (r .count) js)) m ≡ ls ++ drop (length ls) m

@@ -13,10 +13,10 @@ use Rattle.lists.specs.Laws.{all-nth, all-map, mem-image, mem-right, perm-lengt
 use Rattle.limits.specs.Says.{between-is}
 use Rattle.booking.specs.Model.{bookingOf}
 use Rattle.walk.specs.declared.Job.{Job}
-use Rattle.walk.specs.declared.Terms.{Terms}
-use Rattle.walk.specs.declared.Busy.{Busy}
+use Rattle.walk.specs.declared.WalkTerms.{WalkTerms}
+use Rattle.walk.specs.declared.FreeTimes.{FreeTimes}
 use Rattle.walk.specs.declared.Plan.{Plan}
-use Rattle.walk.specs.Chunks.{Sends}
+use Rattle.walk.specs.Chunks.{Sendable}
 use Rattle.walk.specs.Order.{by-deadline-perm}
 use Rattle.walk.specs.Plan.{plan-numbers, plan-length, plan-sends}
 use Rattle.walk.specs.WalkSteps.{Ready, Walked, books-feasible}
@@ -30,7 +30,7 @@ use Rattle.answers.specs.declared.Question.the-variants as question
 use Rattle.answers.specs.declared.Answer.{Answer}
 use Rattle.answers.specs.declared.Answer.the-variants as answer
 use Rattle.planner.specs.declared.Decision.{Decision}
-use Rattle.planner.specs.Model.{greatest, between, noJob, waitingOf, termsOf, busyOf, byDeadline, plan, booksAll}
+use Rattle.planner.specs.Model.{greatest, between, noJob, waitingOf, walkTermsOf, freeTimesOf, byDeadline, plan, booksAll}
 use Rattle.planner.specs.Passes.{passesOf}
 use Rattle.planner.specs.Changes.{withJobs}
 use Rattle.planner.specs.Calls.{Said, said, refused, hasNumber, ofNumber, numberOf, computeOf, OfferGranted, newJob, withPlan, yesOf, offerAsked, offerSaid, offerFarm}
@@ -74,19 +74,19 @@ new-job-is f o p j e h = e ∙ rw h
 -- what the walk of the waiting jobs and a new one says, and the farm that it leaves
 abbrev pub walkSaid : Farm → Job → Said
 walkSaid f j =
-    cond (booksAll (termsOf f) (busyOf f) (byDeadline (waitingOf f ++ j ∷ []))) (yesOf (f .costs) (ofNumber (j .number) (plan (termsOf f) (busyOf f) (byDeadline (waitingOf f ++ j ∷ []))))) (refused 8)
+    cond (booksAll (walkTermsOf f) (freeTimesOf f) (byDeadline (waitingOf f ++ j ∷ []))) (yesOf (f .costs) (ofNumber (j .number) (plan (walkTermsOf f) (freeTimesOf f) (byDeadline (waitingOf f ++ j ∷ []))))) (refused 8)
 
 abbrev pub walkFarm : Farm → Job → Farm
-walkFarm f j = cond (booksAll (termsOf f) (busyOf f) (byDeadline (waitingOf f ++ j ∷ []))) (withPlan f (plan (termsOf f) (busyOf f) (byDeadline (waitingOf f ++ j ∷ [])))) f
+walkFarm f j = cond (booksAll (walkTermsOf f) (freeTimesOf f) (byDeadline (waitingOf f ++ j ∷ []))) (withPlan f (plan (walkTermsOf f) (freeTimesOf f) (byDeadline (waitingOf f ++ j ∷ [])))) f
 
 -- A plan of some jobs and a new one has one of that one's number.
-pub planned-has : (w : Terms) (b : Busy) (js : List Job) (j : Job) → hasNumber (j .number) (plan w b (byDeadline (js ++ j ∷ []))) ≡ true
+pub planned-has : (w : WalkTerms) (b : FreeTimes) (js : List Job) (j : Job) → hasNumber (j .number) (plan w b (byDeadline (js ++ j ∷ []))) ≡ true
 planned-has w b js j =
     let m : List·Memᴰ j (byDeadline (js ++ j ∷ [])) = perm-mem (by-deadline-perm (js ++ j ∷ [])) (mem-right js (List·Memᴰ·head refl)) in
     has-number (plan w b (byDeadline (js ++ j ∷ []))) (j .number) (subst (List·Memᴰ (j .number)) (sym (plan-numbers w b (byDeadline (js ++ j ∷ [])))) (mem-image numberOfJob m))
 
 -- The plan of a queue has its jobs.
-pub planned-count : (w : Terms) (b : Busy) (js : List Job) → length (plan w b (byDeadline js)) ≡ length js
+pub planned-count : (w : WalkTerms) (b : FreeTimes) (js : List Job) → length (plan w b (byDeadline js)) ≡ length js
 planned-count w b js = plan-length w b (byDeadline js) ∙ sym (perm-length (by-deadline-perm js))
 
 module _ (f : Farm) (j : Job) (o : Offered f j) (free : length (f .free) ≡ 64) (full : length (f .jobs) ≡ 128) where
@@ -99,18 +99,18 @@ module _ (f : Farm) (j : Job) (o : Offered f j) (free : length (f .free) ≡ 64)
   queued-jobs = rw (add-one (f .waiting)) (take-suc-set (f .jobs) (f .waiting) j (omega (arith, o .waiting)))
 
   -- What the walk of them starts from.
-  pub queued-ready : (f .waiting + 1 ≤ 128) × (f .waiting < 128) × Ready (termsOf f) (busyOf f) (take (f .waiting + 1) (set (f .jobs) (f .waiting) j))
+  pub queued-ready : (f .waiting + 1 ≤ 128) × (f .waiting < 128) × Ready (walkTermsOf f) (freeTimesOf f) (take (f .waiting + 1) (set (f .jobs) (f .waiting) j))
   queued-ready = (omega (arith, o .waiting), o .waiting, rw queued-jobs (offer-ready f j o))
 
   abbrev planOf : List Job
-  planOf = plan (termsOf f) (busyOf f) (byDeadline (waitingOf f ++ j ∷ []))
+  planOf = plan (walkTermsOf f) (freeTimesOf f) (byDeadline (waitingOf f ++ j ∷ []))
 
   count : length planOf ≡ f .waiting + 1
-  count = planned-count (termsOf f) (busyOf f) (waitingOf f ++ j ∷ []) ∙ length-append (waitingOf f) (j ∷ []) ∙ ap (λ (x : ℕ). x + 1) (length-take-le (f .waiting) (f .jobs) (omega (arith, o .waiting)))
+  count = planned-count (walkTermsOf f) (freeTimesOf f) (waitingOf f ++ j ∷ []) ∙ length-append (waitingOf f) (j ∷ []) ∙ ap (λ (x : ℕ). x + 1) (length-take-le (f .waiting) (f .jobs) (omega (arith, o .waiting)))
 
-  module _ (r : Plan) (w : Walked (termsOf f) (busyOf f) queued (f .waiting + 1) r) where
-    books : r .ok ≡ booksAll (termsOf f) (busyOf f) (byDeadline (waitingOf f ++ j ∷ []))
-    books = w .books ∙ ap (λ (js : List Job). booksAll (termsOf f) (busyOf f) (byDeadline js)) queued-jobs
+  module _ (r : Plan) (w : Walked (walkTermsOf f) (freeTimesOf f) queued (f .waiting + 1) r) where
+    books : r .ok ≡ booksAll (walkTermsOf f) (freeTimesOf f) (byDeadline (waitingOf f ++ j ∷ []))
+    books = w .books ∙ ap (λ (js : List Job). booksAll (walkTermsOf f) (freeTimesOf f) (byDeadline js)) queued-jobs
 
     -- Not all are booked.
     pub walk-refuses : r .ok ≡ false → (js : List Job) → Decides f (walkSaid f j) (walkFarm f j) (record { granted = false; answer = answer.No question.Walk; used = f .used; waiting = f .waiting; jobs = js })
@@ -131,7 +131,7 @@ module _ (f : Farm) (j : Job) (o : Offered f j) (free : length (f .free) ≡ 64)
         at-plan = sym at ∙ ap (placeOf (j .number)) front
 
         within : placeOf (j .number) planOf < length planOf
-        within = has-place (j .number) planOf (planned-has (termsOf f) (busyOf f) (waitingOf f) j)
+        within = has-place (j .number) planOf (planned-has (walkTermsOf f) (freeTimesOf f) (waitingOf f) j)
 
         -- The number stands in the plan.
         pub new-within : place < f .waiting + 1
@@ -146,15 +146,15 @@ module _ (f : Farm) (j : Job) (o : Offered f j) (free : length (f .free) ≡ 64)
             ∙ place-job (j .number) planOf within
 
         -- Its chunks can be worked out.
-        pub new-sends : Sends (f .costs) (getD (r .jobs) place noJob)
+        pub new-sends : Sendable (f .costs) (getD (r .jobs) place noJob)
         new-sends =
             let g = passes-within f (o .passes) in
             let ready = walk-ready f j o in
             let queue = byDeadline (waitingOf f ++ j ∷ []) in
-            let feasible = books-feasible (termsOf f) (busyOf f) queue (ready .answered) (omega (arith, g .nodes .1)) (all-map (λ x h. h .0) queue (ready .jobs)) (sym books ∙ ok) in
+            let feasible = books-feasible (walkTermsOf f) (freeTimesOf f) queue (ready .answered) (omega (arith, g .nodes .1)) (all-map (λ x h. h .0) queue (ready .jobs)) (sym books ∙ ok) in
             let here : getD (r .jobs) place noJob ≡ getD planOf place noJob = ap (λ (js : List Job). getD js place noJob) plans ∙ List·getD-append planOf (drop (f .waiting + 1) (f .jobs)) noJob place (omega (arith, at-plan, within)) in
-            subst (Sends (f .costs)) (sym here)
-            (all-nth noJob (Sends (f .costs)) planOf place (plan-sends (termsOf f) (busyOf f) queue (g .nodes .1) (g .costs) free (ready .jobs) feasible) (omega (arith, at-plan, within)))
+            subst (Sendable (f .costs)) (sym here)
+            (all-nth noJob (Sendable (f .costs)) planOf place (plan-sends (walkTermsOf f) (freeTimesOf f) queue (g .nodes .1) (g .costs) free (ready .jobs) feasible) (omega (arith, at-plan, within)))
 
         -- All are booked, and the new job is told.
         pub walk-accepts : (a : Answer) → said a ≡ yesOf (f .costs) (getD (r .jobs) place noJob)

@@ -2,7 +2,7 @@
 -- First the test that runs, then what the paper asks. `passes-iff` in the crate demands says that they are the same. What is asked of the waiting
 -- jobs is defined in the crate soundness.
 pub use Rattle.limits.specs.Model.{CostsWithin}
-pub use Rattle.soundness.specs.Model.{numbersOf, JobWithin, JobSound, Sound}
+pub use Rattle.soundness.specs.Model.{jobNumbers, JobWithin, JobSound, Sound}
 unfoldable pub use Rattle.soundness.specs.Model.{waitingPass}
 use Prim.Native.Nat.{ℕ, _≤_}
 use mathlib.Core.Path.{_≡_}
@@ -10,9 +10,9 @@ use mathlib.Core.Bool.{Bool, true, _&&_}
 use lib.Dec.{leb}
 use lib.ListN.{take}
 use Rattle.lists.specs.Laws.{All}
-use Rattle.soundness.specs.declared.Figures.{Figures}
+use Rattle.soundness.specs.declared.JobBounds.{JobBounds}
 use Rattle.planner.specs.declared.Farm.{Farm}
-use Rattle.planner.specs.Model.{greatest, mostHeld, between, allAtMost, costsWithin, waitingOf, busyOf, Between}
+use Rattle.planner.specs.Model.{greatest, mostHeld, between, allAtMost, costsWithin, waitingOf, freeTimesOf, walkTermsOf, Between}
 
 -- ---- The test
 
@@ -31,12 +31,12 @@ timesWithin f =
     leb (f .clock) greatest && leb (f .link) greatest && allAtMost greatest (take (f .nodes) (f .free)) && leb (f .used) greatest && leb (f .waiting) 128
 
 -- the figures that the waiting jobs are held against
-abbrev pub figuresOf : Farm → Figures
-figuresOf f = record { nodes = f .nodes; shows = f .shows; used = f .used; clock = f .clock; costs = f .costs }
+abbrev pub boundsOf : Farm → JobBounds
+boundsOf f = record { terms = walkTermsOf f; shows = f .shows; used = f .used }
 
 -- the answer to question 11
 unfoldable pub passesOf : Farm → Bool
-passesOf f = f .opened && countsWithin f && timesWithin f && waitingPass (figuresOf f) (busyOf f) (waitingOf f)
+passesOf f = f .opened && countsWithin f && timesWithin f && waitingPass (boundsOf f) (freeTimesOf f) (waitingOf f)
 
 -- ---- What the paper asks
 
@@ -57,6 +57,6 @@ pub record Passes (f : Farm) : Type 0 where
   pub opened : f .opened ≡ true
   pub within : Within f
   -- the figures of each waiting job within their limits
-  pub jobs : All (JobWithin (figuresOf f)) (waitingOf f)
+  pub jobs : All (JobWithin (boundsOf f)) (waitingOf f)
   -- the waiting bookings sound
-  pub sound : Sound (figuresOf f) (busyOf f) (waitingOf f)
+  pub sound : Sound (boundsOf f) (freeTimesOf f) (waitingOf f)

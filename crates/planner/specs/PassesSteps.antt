@@ -9,8 +9,8 @@ use Rattle.walk.specs.declared.Job.{Job}
 use Rattle.soundness.specs.Model.{jobsPass, allDiffer}
 use Rattle.soundness.specs.Sound.{Usable, JobKept, says-jobs}
 use Rattle.planner.specs.declared.Farm.{Farm}
-use Rattle.planner.specs.Model.{greatest, mostHeld, waitingOf, busyOf}
-use Rattle.planner.specs.Passes.{countsWithin, timesWithin, figuresOf, numbersOf, waitingPass, passesOf, JobWithin, Within}
+use Rattle.planner.specs.Model.{greatest, mostHeld, waitingOf, freeTimesOf}
+use Rattle.planner.specs.Passes.{countsWithin, timesWithin, boundsOf, jobNumbers, waitingPass, passesOf, JobWithin, Within}
 
 -- opened, and its figures within their limits
 abbrev pub farmWithin : Farm → Bool
@@ -56,7 +56,7 @@ farm-within f e =
     go a b p q = rw (p, q)
 
 -- With them no sum of question 11 wraps.
-pub usable : (f : Farm) → Within f → Usable (figuresOf f)
+pub usable : (f : Farm) → Within f → Usable (boundsOf f)
 usable f w = record { nodes = w .nodes .1; costs = w .costs }
 
 -- The test ends where the farm is not opened or a figure is not within its limits, and else goes on to the waiting jobs.
@@ -64,24 +64,24 @@ pub passes-out : (f : Farm) → farmWithin f ≡ false → passesOf f ≡ false
 unfolding passesOf
 passes-out f e = rw e
 
-pub passes-rest : (f : Farm) → farmWithin f ≡ true → passesOf f ≡ waitingPass (figuresOf f) (busyOf f) (waitingOf f)
+pub passes-rest : (f : Farm) → farmWithin f ≡ true → passesOf f ≡ waitingPass (boundsOf f) (freeTimesOf f) (waitingOf f)
 unfolding passesOf
 passes-rest f e = rw e
 
 -- ---- A farm that passes
 
 module _ (f : Farm) (e : passesOf f ≡ true) where
-  parts : (farmWithin f ≡ true) × (waitingPass (figuresOf f) (busyOf f) (waitingOf f) ≡ true)
+  parts : (farmWithin f ≡ true) × (waitingPass (boundsOf f) (freeTimesOf f) (waitingOf f) ≡ true)
   unfolding passesOf
-  parts = and-both (farmWithin f) (waitingPass (figuresOf f) (busyOf f) (waitingOf f)) e
+  parts = and-both (farmWithin f) (waitingPass (boundsOf f) (freeTimesOf f) (waitingOf f)) e
 
   -- Its figures are within their limits.
   pub passes-within : Within f
   passes-within = farm-within f (parts .0)
 
   -- So are those of its waiting jobs, and each job by itself is kept.
-  pub passes-jobs : All (λ (j : Job). JobWithin (figuresOf f) j × JobKept (figuresOf f) j) (waitingOf f)
+  pub passes-jobs : All (λ (j : Job). JobWithin (boundsOf f) j × JobKept (boundsOf f) j) (waitingOf f)
   unfolding waitingPass
   passes-jobs =
-      says-jobs (figuresOf f) (waitingOf f) .yields
-      (and-both (jobsPass (figuresOf f) (waitingOf f)) (allDiffer (numbersOf (waitingOf f))) (and-both (jobsPass (figuresOf f) (waitingOf f) && allDiffer (numbersOf (waitingOf f))) _ (parts .1) .0) .0)
+      says-jobs (boundsOf f) (waitingOf f) .yields
+      (and-both (jobsPass (boundsOf f) (waitingOf f)) (allDiffer (jobNumbers (waitingOf f))) (and-both (jobsPass (boundsOf f) (waitingOf f) && allDiffer (jobNumbers (waitingOf f))) _ (parts .1) .0) .0)

@@ -15,6 +15,7 @@ use answers::Answer;
 use answers::Question;
 use answers::columns;
 use limits::FarmCosts;
+use limits::GREATEST;
 use limits::all_at_most;
 use limits::between;
 use limits::costs_within;
@@ -86,7 +87,7 @@ impl Farm {
         if !between(1, shows as u64, 32) {
             return not_opened(Question::Shows);
         }
-        if !all_at_most(allowances, shows, 1000000000000) {
+        if !all_at_most(allowances, shows, GREATEST) {
             return not_opened(Question::Shows);
         }
         let mut farm = unopened_farm();

@@ -16,14 +16,15 @@ use crate::passing::passes;
 use answers::Answer;
 use answers::Question;
 use limits::FarmCosts;
+use limits::GREATEST;
 use limits::between;
 use timetable::Due;
 use timetable::begin::begun_by;
 use timetable::begin::due;
 use timetable::begin::line_count;
 use timetable::lines::write_lines;
-use walk::Busy;
 use walk::Chunk;
+use walk::FreeTimes;
 use walk::Job;
 use walk::by_start;
 use walk::gathered;
@@ -135,7 +136,7 @@ impl Farm {
     {
         let jobs = self.jobs;
         let found = due(jobs, self.waiting, time);
-        if !between(self.clock, time, 1_000_000_000_000) {
+        if !between(self.clock, time, GREATEST) {
             return Move {
                 granted: false,
                 answer: Answer::No(Question::Time),
@@ -169,18 +170,18 @@ impl Farm {
         let held = self.held;
         let jobs = self.jobs;
         let keys = due.keys;
-        let busy = Busy {
+        let times = FreeTimes {
             link: self.link,
             free,
         };
-        let begun = begun_by(costs, busy, held, jobs, keys, due.count);
-        let after = begun.busy;
-        let times = after.free;
+        let begun = begun_by(costs, times, held, jobs, keys, due.count);
+        let after = begun.times;
+        let free_then = after.free;
         let cells = begun.held;
         self.held = cells;
         self.clock = time;
         self.link = after.link;
-        self.free = times;
+        self.free = free_then;
         let waiting = self.waiting;
         let mut kept = 0;
         let mut i = 0;

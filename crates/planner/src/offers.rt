@@ -19,9 +19,9 @@ use answers::ask;
 use answers::compute_or;
 use answers::yes;
 use queue::new_job;
-use walk::Busy;
+use walk::FreeTimes;
 use walk::Job;
-use walk::Terms;
+use walk::WalkTerms;
 use walk::walked;
 
 // Question 8: whether the walk books every waiting job and the new one, and the jobs with their bookings. The job of the new
@@ -31,13 +31,13 @@ fn planned(farm: Farm, job: Job) -> Decision
     ensures { λ r. ⌜ Decides farm (walkSaid farm job) (walkFarm farm job) r ⌝ }
 {
     let costs = farm.costs;
-    let terms = Terms {
+    let terms = WalkTerms {
         costs,
         nodes: farm.nodes,
         clock: farm.clock,
     };
     let free = farm.free;
-    let busy = Busy {
+    let times = FreeTimes {
         link: farm.link,
         free,
     };
@@ -45,7 +45,7 @@ fn planned(farm: Farm, job: Job) -> Decision
     let waiting = farm.waiting;
     let count = waiting + 1;
     let old = farm.jobs;
-    let plan = walked(terms, busy, old, count, waiting, job);
+    let plan = walked(terms, times, old, count, waiting, job);
     let jobs = plan.jobs;
     if !plan.ok {
         return Decision {

@@ -3,15 +3,18 @@
 ghost use mathlib.Core.Path.{_≡_};
 ghost use Rattle.planner.specs.Passes.{countsWithin, timesWithin, passesOf};
 use crate::Farm;
+use limits::GREATEST;
+use limits::MOST_HELD;
 use limits::all_at_most;
 use limits::and;
 use limits::at_most;
 use limits::between;
 use limits::costs_within;
 use numbers::wide;
-use soundness::Figures;
+use soundness::JobBounds;
 use soundness::waiting_pass;
-use walk::Busy;
+use walk::FreeTimes;
+use walk::WalkTerms;
 
 // ---- The farm's figures
 
@@ -26,10 +29,10 @@ fn counts_within(farm: Farm) -> bool
     );
     let allowances = farm.allowances;
     let held = farm.held;
-    let allowed = all_at_most(&allowances, farm.shows, 1_000_000_000_000);
+    let allowed = all_at_most(&allowances, farm.shows, GREATEST);
     and(
         and(first, allowed),
-        all_at_most(&held, farm.shows, 64_000_000_000_000),
+        all_at_most(&held, farm.shows, MOST_HELD),
     )
 }
 
@@ -38,13 +41,10 @@ fn times_within(farm: Farm) -> bool
     ensures { λ r. ⌜ r ≡ timesWithin farm ⌝ }
 {
     let free = farm.free;
-    let times = and(
-        at_most(farm.clock, 1_000_000_000_000),
-        at_most(farm.link, 1_000_000_000_000),
-    );
-    let all = and(times, all_at_most(&free, farm.nodes, 1_000_000_000_000));
+    let times = and(at_most(farm.clock, GREATEST), at_most(farm.link, GREATEST));
+    let all = and(times, all_at_most(&free, farm.nodes, GREATEST));
     and(
-        and(all, at_most(farm.used, 1_000_000_000_000)),
+        and(all, at_most(farm.used, GREATEST)),
         at_most(wide(farm.waiting), 128),
     )
 }
@@ -57,18 +57,21 @@ pub fn passes(farm: Farm) -> bool
         return false;
     }
     let costs = farm.costs;
-    let figures = Figures {
+    let terms = WalkTerms {
+        costs,
         nodes: farm.nodes,
+        clock: farm.clock,
+    };
+    let bounds = JobBounds {
+        terms,
         shows: farm.shows,
         used: farm.used,
-        clock: farm.clock,
-        costs,
     };
     let free = farm.free;
-    let busy = Busy {
+    let times = FreeTimes {
         link: farm.link,
         free,
     };
     let jobs = farm.jobs;
-    waiting_pass(figures, busy, jobs, farm.waiting)
+    waiting_pass(bounds, times, jobs, farm.waiting)
 }

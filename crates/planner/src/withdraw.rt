@@ -32,13 +32,14 @@ impl Farm {
         ensures { λ r. ⌜ Decides self (withdrawSaid self number) (withdrawFarm self number) r ⌝ }
     {
         let jobs = self.jobs;
+        let used = self.used;
         let waiting = self.waiting;
         let place = place_of(jobs, waiting, number);
         if place == waiting {
             return Decision {
                 granted: false,
                 answer: Answer::No(Question::Waiting),
-                used: self.used,
+                used,
                 waiting,
                 jobs,
             };
@@ -46,7 +47,7 @@ impl Farm {
         Decision {
             granted: true,
             answer: Answer::Gone { job: number },
-            used: self.used,
+            used,
             waiting: waiting - 1,
             jobs: closed_up(jobs, waiting, place),
         }

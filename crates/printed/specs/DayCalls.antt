@@ -15,7 +15,7 @@ use Rattle.walk.specs.Model.{noChunk}
 use Rattle.planner.specs.declared.Farm.{Farm}
 use Rattle.answers.specs.declared.Offer.{Offer}
 use Rattle.planner.specs.Model.{between, costsWithin}
-use Rattle.planner.specs.Calls.{Word, Open, Yes, Clock, Shown, Account, Gone, Quote, No, Said, granted, refused, unopened, showsWithin, openSaid, offerSaid, quoteSaid}
+use Rattle.planner.specs.Calls.{SaidWord, Open, Yes, Clock, Shown, Account, Gone, Quote, No, Said, granted, refused, unopened, showsWithin, openSaid, offerSaid, quoteSaid}
 use Rattle.planner.specs.Call.{Call, Accepted, acceptedFrom, Noted, nothing, does, reply, isGranted, noted}
 use Rattle.reading.specs.declared.Kind.{Kind}
 use Rattle.reading.specs.declared.Kind.the-variants as kind
@@ -91,7 +91,7 @@ abbrev pub chunksIn : List Print → List Chunk
 chunksIn ps = collect chunkIn ps
 
 -- a number for each word, to compare them by
-abbrev pub wordCode : Word → ℕ
+abbrev pub wordCode : SaidWord → ℕ
 wordCode Open = 0
 wordCode Yes = 1
 wordCode Clock = 2
@@ -101,12 +101,12 @@ wordCode Gone = 5
 wordCode Quote = 6
 wordCode No = 7
 
-abbrev pub sameWord : Word → Word → Bool
+abbrev pub sameWord : SaidWord → SaidWord → Bool
 sameWord v w = eqb (wordCode v) (wordCode w)
 
 -- what an answer with this word tells by its values, where it is no refusal; other answers and `chunk` lines tell
 -- nothing
-abbrev pub toldUnder : {A : Type 0} → Word → (List ℕ → A) → Print → List A
+abbrev pub toldUnder : {A : Type 0} → SaidWord → (List ℕ → A) → Print → List A
 toldUnder w g (chunk x) = []
 toldUnder w g (answer s) = cond (eqb (s .number) 0 && sameWord (s .word) w) (g (s .values) ∷ []) []
 
@@ -313,7 +313,7 @@ quote-number f o e = e
 -- the word under which a call on a line with these numbers is granted; what is told under `yes` and under `gone` where it
 -- is, is what it notes
 record TellsNoted (f : Farm) (ns : List ℕ) (c : Call) : Type 0 where
-  word : Word
+  word : SaidWord
   grants : reply f c .number ≡ 0 → reply f c .word ≡ word
   jobs : cond (sameWord word Yes) (acceptedFrom f (offerIn (length ns) ns) (getD (reply f c .values) 0 0) ∷ []) []
       ≡ does f c .notes .jobs
@@ -363,7 +363,7 @@ kind-tells f ns kind.Quote = record {
 kind-tells f ns kind.Unreadable = tt
 
 -- An opening is granted under another word than these.
-open-tells : {A : Type 0} (w : Word) (g : List ℕ → A) → sameWord Open w ≡ false → (n : ℕ) (c : FarmCosts) (al : List ℕ)
+open-tells : {A : Type 0} (w : SaidWord) (g : List ℕ → A) → sameWord Open w ≡ false → (n : ℕ) (c : FarmCosts) (al : List ℕ)
     → toldUnder w g (answer (openSaid n c al)) ≡ []
 unfolding openSaid
 open-tells {A} w g e n c al = go (between 1 n 64) (costsWithin c) (showsWithin al)
@@ -379,14 +379,14 @@ open-tells {A} w g e n c al = go (between 1 n 64) (costsWithin c) (showsWithin a
 -- ---- Accepted and withdrawn jobs
 
 -- Of what a line prints what its answer tells is read.
-told-after : {A : Type 0} (w : Word) (g : List ℕ → A) (xs : List Chunk) (s : Said)
+told-after : {A : Type 0} (w : SaidWord) (g : List ℕ → A) (xs : List Chunk) (s : Said)
     → collect (toldUnder w g) (map chunk xs ++ answer s ∷ []) ≡ toldUnder w g (answer s)
 unfolding collect
 told-after w g [] s = append-nil (toldUnder w g (answer s))
 told-after w g (x ∷ xs) s = told-after w g xs s
 
 -- what answers under a word tell is what is noted of granted calls
-record ReadsAnswers {A : Type 0} (w : Word) (g : Farm → List ℕ → List ℕ → A) (of : Noted → List A) (kept : History → List A)
+record ReadsAnswers {A : Type 0} (w : SaidWord) (g : Farm → List ℕ → List ℕ → A) (of : Noted → List A) (kept : History → List A)
     : Type 0 where
   other : sameWord Open w ≡ false
   none : of nothing ≡ []
@@ -395,7 +395,7 @@ record ReadsAnswers {A : Type 0} (w : Word) (g : Farm → List ℕ → List ℕ 
   calls : (f : Farm) (ns : List ℕ) (c : Call) (t : TellsNoted f ns c)
       → cond {A = List A} (sameWord (t .word) w) (g f ns (reply f c .values) ∷ []) [] ≡ of (does f c .notes)
 
-answers-reading : {A : Type 0} (w : Word) (g : Farm → List ℕ → List ℕ → A) (of : Noted → List A) (kept : History → List A)
+answers-reading : {A : Type 0} (w : SaidWord) (g : Farm → List ℕ → List ℕ → A) (of : Noted → List A) (kept : History → List A)
     → ReadsAnswers w g of kept → Reading (λ f ns. toldUnder w (g f ns)) kept
 answers-reading {A} w g of kept x = record {
   unread = λ f ns. refl;
@@ -407,7 +407,7 @@ answers-reading {A} w g of kept x = record {
     told : (f : Farm) (ns : List ℕ) (c : Call) → TellsNoted f ns c → toldUnder w (g f ns) (answer (reply f c)) ≡ of (noted f c)
     told f ns c t = go (isGranted f c) refl
       where
-        under-word : Word → List A
+        under-word : SaidWord → List A
         under-word v = cond (sameWord v w) (g f ns (reply f c .values) ∷ []) []
 
         go : (b : Bool) → isGranted f c ≡ b

@@ -29,7 +29,7 @@ use Rattle.demands.specs.CallLists.{History, opening, run, heldOf}
 use Rattle.demands.specs.Demand1.{open-keeps}
 use Rattle.demands.specs.Kept.{run-keeps}
 use Rattle.demands.specs.Demand3.{Demand3, demand3}
-use Rattle.printed.specs.Model.{linesIn, answers, dayText, answersOf, texts, withoutQuotes, otherAnswers}
+use Rattle.printed.specs.Model.{linesIn, answers, dayText, lineAnswers, texts, linesWithoutQuotes, otherLineAnswers}
 use Rattle.printed.specs.QuoteLines.{answers-texts, answers-without}
 use Rattle.printed.specs.DayCalls.{callsIn, farmAfter, Print, chunk, answer, printTexts, printsOf, linePrints, prints, collect, chunkIn, chunksIn, goneOn, goneIn, acceptedOn, acceptedIn, readIn, Reading, farm-after, answers-text, collect-prints, read-lines, read-unopened, chunks-reading, accepted-reading, gone-reading}
 
@@ -389,10 +389,10 @@ pub record PrintedDay (bs : List ℕ) : Type 0 where
   pub text : dayText bs ≡ printTexts (prints unopened (linesIn bs))
   pub day : Day (linesIn bs)
   -- It is the answers of its lines, one after the other. Without the `quote` lines every other line is answered what it is answered among them,
-  pub each : dayText bs ≡ texts (answersOf unopened (linesIn bs))
-  pub others : answersOf unopened (withoutQuotes (linesIn bs)) ≡ otherAnswers unopened (linesIn bs)
+  pub each : dayText bs ≡ texts (lineAnswers unopened (linesIn bs))
+  pub others : lineAnswers unopened (linesWithoutQuotes (linesIn bs)) ≡ otherLineAnswers unopened (linesIn bs)
   -- and an input of the other lines alone prints these answers.
-  pub rest : (cs : List ℕ) → linesIn cs ≡ withoutQuotes (linesIn bs) → dayText cs ≡ texts (otherAnswers unopened (linesIn bs))
+  pub rest : (cs : List ℕ) → linesIn cs ≡ linesWithoutQuotes (linesIn bs) → dayText cs ≡ texts (otherLineAnswers unopened (linesIn bs))
 
 -- **Demand 3 of every input.**
 pub printed-day : (bs : List ℕ) → PrintedDay bs
@@ -401,5 +401,5 @@ printed-day bs = record {
   day = lines-day (linesIn bs);
   each = answers-texts unopened (linesIn bs);
   others = answers-without unopened (linesIn bs);
-  rest = λ cs e. ap (answers unopened) e ∙ answers-texts unopened (withoutQuotes (linesIn bs)) ∙ ap texts (answers-without unopened (linesIn bs));
+  rest = λ cs e. ap (answers unopened) e ∙ answers-texts unopened (linesWithoutQuotes (linesIn bs)) ∙ ap texts (answers-without unopened (linesIn bs));
 }

@@ -9,7 +9,7 @@ use Rattle.planner.specs.declared.Farm.{Farm}
 use Rattle.planner.specs.Calls.{unopened}
 use Rattle.text.specs.Model.{newline}
 use Rattle.reading.specs.declared.Kind.the-variants as kind
-use Rattle.reading.specs.Model.{same, onFirst, fields, firstOf, wordOf}
+use Rattle.reading.specs.Model.{same, onFirst, fields, firstOf, kindWord}
 use Rattle.lines.specs.Model.{answeredText, answered}
 
 -- the lines of the input: each ends with a newline, which the last one may lack
@@ -29,8 +29,8 @@ dayText bs = answers unopened (linesIn bs)
 -- ---- Without the `quote` lines
 
 -- each line with its answer
-abbrev pub answersOf : Farm → List (List ℕ) → List (List ℕ × List ℕ)
-answersOf f ls =
+abbrev pub lineAnswers : Farm → List (List ℕ) → List (List ℕ × List ℕ)
+lineAnswers f ls =
     answersTo (λ (g : Farm) (l : List ℕ). answered g l .farm)
     (λ (g : Farm) (l : List ℕ). answeredText (answered g l)) f ls
 
@@ -40,12 +40,12 @@ texts [] = []
 texts (a ∷ rest) = a .1 ++ texts rest
 
 -- whether its first field is another than `quote`
-abbrev pub noQuote : List ℕ → Bool
-noQuote l = not (same (firstOf (fields l)) (wordOf kind.Quote))
+abbrev pub noQuoteLine : List ℕ → Bool
+noQuoteLine l = not (same (firstOf (fields l)) (kindWord kind.Quote))
 
 -- the lines without those that begin with `quote`, and what the others are answered among them
-abbrev pub withoutQuotes : List (List ℕ) → List (List ℕ)
-withoutQuotes ls = keep noQuote ls
+abbrev pub linesWithoutQuotes : List (List ℕ) → List (List ℕ)
+linesWithoutQuotes ls = keep noQuoteLine ls
 
-abbrev pub otherAnswers : Farm → List (List ℕ) → List (List ℕ × List ℕ)
-otherAnswers f ls = keep (λ (a : List ℕ × List ℕ). noQuote (a .0)) (answersOf f ls)
+abbrev pub otherLineAnswers : Farm → List (List ℕ) → List (List ℕ × List ℕ)
+otherLineAnswers f ls = keep (λ (a : List ℕ × List ℕ). noQuoteLine (a .0)) (lineAnswers f ls)

@@ -11,12 +11,12 @@ use Rattle.planner.specs.declared.Farm.{Farm}
 use Rattle.reading.specs.declared.Kind.{Kind}
 use Rattle.reading.specs.declared.Kind.the-variants as kind
 use Rattle.planner.specs.Call.{quote}
-use Rattle.reading.specs.Model.{same, fields, firstOf, wordOf, kindAmong, kindOf, lineKind, readable, numbersOf}
+use Rattle.reading.specs.Model.{same, fields, firstOf, kindWord, kindAmong, kindOf, lineKind, readable, numbersOf}
 use Rattle.lines.specs.Model.{offerIn, noCall, asked, longest, lineAsks, Answered, answeredText, unread, called, answeredAs, answeredWith, answered}
-use Rattle.printed.specs.Model.{answers, answersOf, texts, noQuote, withoutQuotes, otherAnswers}
+use Rattle.printed.specs.Model.{answers, lineAnswers, texts, noQuoteLine, linesWithoutQuotes, otherLineAnswers}
 
 -- What lines are answered is their answers, one after the other.
-pub answers-texts : (f : Farm) (ls : List (List ℕ)) → answers f ls ≡ texts (answersOf f ls)
+pub answers-texts : (f : Farm) (ls : List (List ℕ)) → answers f ls ≡ texts (lineAnswers f ls)
 unfolding answers texts answersTo
 answers-texts f [] = refl
 answers-texts f (l ∷ ls) = ap (λ (t : List ℕ). answeredText (answered f l) ++ t) (answers-texts (answered f l .farm) ls)
@@ -34,16 +34,16 @@ same-is (x ∷ xs) (y ∷ ys) e = go (eqb x y) refl e (same-is xs ys)
     go false h k r = absurd (false≢true k)
 
 -- A line whose first field is `quote` is of that kind.
-quote-kind : (l : List ℕ) → noQuote l ≡ false → lineKind l ≡ kind.Quote
+quote-kind : (l : List ℕ) → noQuoteLine l ≡ false → lineKind l ≡ kind.Quote
 unfolding kindOf kindAmong same
-quote-kind l e = go (same (firstOf (fields l)) (wordOf kind.Quote)) refl e
+quote-kind l e = go (same (firstOf (fields l)) (kindWord kind.Quote)) refl e
   where
-    go : (b : Bool) → same (firstOf (fields l)) (wordOf kind.Quote) ≡ b → not b ≡ false → lineKind l ≡ kind.Quote
-    go true h k = ap kindOf (same-is (firstOf (fields l)) (wordOf kind.Quote) h)
+    go : (b : Bool) → same (firstOf (fields l)) (kindWord kind.Quote) ≡ b → not b ≡ false → lineKind l ≡ kind.Quote
+    go true h k = ap kindOf (same-is (firstOf (fields l)) (kindWord kind.Quote) h)
     go false h k = absurd (false≢true (sym k))
 
 -- It leaves the farm as it is.
-pub quote-farm : (f : Farm) (l : List ℕ) → noQuote l ≡ false → answered f l .farm ≡ f
+pub quote-farm : (f : Farm) (l : List ℕ) → noQuoteLine l ≡ false → answered f l .farm ≡ f
 unfolding answered answeredAs lineAsks
 quote-farm f l e =
     ap (λ (k : Kind). answeredWith f (cond (leb (length l) longest) (cond (readable l) (asked k) noCall) noCall) ns .farm) (quote-kind l e)
@@ -62,7 +62,7 @@ quote-farm f l e =
     go false b = refl
 
 -- Without them every other line is answered what it is answered among them.
-pub answers-without : (f : Farm) (ls : List (List ℕ)) → answersOf f (withoutQuotes ls) ≡ otherAnswers f ls
+pub answers-without : (f : Farm) (ls : List (List ℕ)) → lineAnswers f (linesWithoutQuotes ls) ≡ otherLineAnswers f ls
 answers-without f ls =
-    answers-keep noQuote (λ (g : Farm) (l : List ℕ). answered g l .farm)
+    answers-keep noQuoteLine (λ (g : Farm) (l : List ℕ). answered g l .farm)
     (λ (g : Farm) (l : List ℕ). answeredText (answered g l)) quote-farm f ls

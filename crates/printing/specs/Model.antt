@@ -34,15 +34,15 @@ decimal n = digits (suc (reached n powers)) n
 -- ---- Words
 
 -- the bytes of each word: open, yes, chunk, clock, account, gone, quote and no
-abbrev pub wordOf : Word → List ℕ
-wordOf word.Open = 111 ∷ 112 ∷ 101 ∷ 110 ∷ []
-wordOf word.Yes = 121 ∷ 101 ∷ 115 ∷ []
-wordOf word.Chunk = 99 ∷ 104 ∷ 117 ∷ 110 ∷ 107 ∷ []
-wordOf word.Clock = 99 ∷ 108 ∷ 111 ∷ 99 ∷ 107 ∷ []
-wordOf word.Account = 97 ∷ 99 ∷ 99 ∷ 111 ∷ 117 ∷ 110 ∷ 116 ∷ []
-wordOf word.Gone = 103 ∷ 111 ∷ 110 ∷ 101 ∷ []
-wordOf word.Quote = 113 ∷ 117 ∷ 111 ∷ 116 ∷ 101 ∷ []
-wordOf word.No = 110 ∷ 111 ∷ []
+abbrev pub answerWord : Word → List ℕ
+answerWord word.Open = 111 ∷ 112 ∷ 101 ∷ 110 ∷ []
+answerWord word.Yes = 121 ∷ 101 ∷ 115 ∷ []
+answerWord word.Chunk = 99 ∷ 104 ∷ 117 ∷ 110 ∷ 107 ∷ []
+answerWord word.Clock = 99 ∷ 108 ∷ 111 ∷ 99 ∷ 107 ∷ []
+answerWord word.Account = 97 ∷ 99 ∷ 99 ∷ 111 ∷ 117 ∷ 110 ∷ 116 ∷ []
+answerWord word.Gone = 103 ∷ 111 ∷ 110 ∷ 101 ∷ []
+answerWord word.Quote = 113 ∷ 117 ∷ 111 ∷ 116 ∷ 101 ∷ []
+answerWord word.No = 110 ∷ 111 ∷ []
 
 -- ---- A line
 
@@ -53,4 +53,4 @@ tabbed (n ∷ ns) = (tab ∷ decimal n) ++ tabbed ns
 
 -- a word and its numbers, with the newline
 unfoldable pub lineText : Word → List ℕ → List ℕ
-lineText w ns = wordOf w ++ (tabbed ns ++ newline ∷ [])
+lineText w ns = answerWord w ++ (tabbed ns ++ newline ∷ [])

@@ -5,7 +5,7 @@ ghost use Prim.Native.Nat.{suc, _+_, _*_, _≤_};
 ghost use lib.ListN.{length, take};
 ghost use Rattle.text.specs.Model.{tab};
 ghost use Rattle.text.specs.Writing.{Wrote, WroteWithin};
-ghost use Rattle.printing.specs.Model.{digits, reached, powers, decimal, wordOf, tabbed, lineText};
+ghost use Rattle.printing.specs.Model.{digits, reached, powers, decimal, answerWord, tabbed, lineText};
 
 // The first word of a line.
 pub enum Word {
@@ -66,7 +66,7 @@ fn put_text(out: &mut [u8], at: usize, text: &[u8]) -> usize
 struct Spelling(usize, [u8; 7]);
 
 fn spelling_of(word: Word) -> Spelling
-    ensures { λ r. ⌜ (r .0 ≤ 7) × (length (r .1) ≡ 7) × (take (r .0) (r .1) ≡ wordOf word) ⌝ }
+    ensures { λ r. ⌜ (r .0 ≤ 7) × (length (r .1) ≡ 7) × (take (r .0) (r .1) ≡ answerWord word) ⌝ }
 {
     match word {
         Word::Open => Spelling(4, *b"open\0\0\0"),
@@ -82,7 +82,7 @@ fn spelling_of(word: Word) -> Spelling
 
 fn put_word(out: &mut [u8], at: usize, word: Word) -> usize
     requires { ⌜ at + 7 ≤ length (now out) ⌝ }
-    ensures { λ r. ⌜ WroteWithin 7 (wordOf word) at (now (out .entry)) (now (out .exit)) r ⌝ }
+    ensures { λ r. ⌜ WroteWithin 7 (answerWord word) at (now (out .entry)) (now (out .exit)) r ⌝ }
 {
     let spelling = spelling_of(word);
     let count = spelling.0;

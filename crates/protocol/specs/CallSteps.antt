@@ -10,8 +10,8 @@ use Rattle.keys.specs.declared.Key.{Key}
 use Rattle.walk.specs.declared.Job.{Job}
 use Rattle.walk.specs.declared.Chunk.{Chunk}
 use Rattle.walk.specs.Model.{inOrder}
-use Rattle.walk.specs.Chunks.{Sends}
-use Rattle.timetable.specs.Model.{rowOf, linesOfAll}
+use Rattle.walk.specs.Chunks.{Sendable}
+use Rattle.timetable.specs.Model.{chunkRow, linesOfAll}
 use Rattle.timetable.specs.BeginSteps.{chunks}
 use Rattle.planner.specs.declared.Farm.{Farm}
 use Rattle.planner.specs.declared.Move.{Move}
@@ -72,7 +72,7 @@ module _ (f : Farm) (t : ℕ) (r : Move) (sized : Sized f) (b : Begins f t (r .d
   counted = ap length (begins-lines f t (r .due) sized b) ∙ begins-count f t (r .due) sized b
 
   -- What is asked to write its lines to the lent records.
-  pub rows-asked : (r .due .count ≤ 128) × All (λ (k : Key). k .place < 128) (take (r .due .count) (r .due .keys)) × All (Sends (f .costs)) named × (chunks named ≤ 1024)
+  pub rows-asked : (r .due .count ≤ 128) × All (λ (k : Key). k .place < 128) (take (r .due .count) (r .due .keys)) × All (Sendable (f .costs)) named × (chunks named ≤ 1024)
   rows-asked = (
     begins-few f t (r .due) sized b,
     begins-places f t (r .due) sized b,
@@ -81,13 +81,13 @@ module _ (f : Farm) (t : ℕ) (r : Move) (sized : Sized f) (b : Begins f t (r .d
   )
 
   -- They have room.
-  pub rows-fit : (rows rest : List (List ℕ)) → rows ≡ map rowOf (linesOfAll (f .costs) named) ++ rest → (r .due .lines ≤ 1024) × (r .due .lines ≤ length rows)
+  pub rows-fit : (rows rest : List (List ℕ)) → rows ≡ map chunkRow (linesOfAll (f .costs) named) ++ rest → (r .due .lines ≤ 1024) × (r .due .lines ≤ length rows)
   rows-fit rows rest e =
-      let l : length rows ≡ length (map rowOf (linesOfAll (f .costs) named)) + length rest = ap length e ∙ length-append (map rowOf (linesOfAll (f .costs) named)) rest in
-      (omega (arith, few, counted), omega (arith, counted, length-map (linesOfAll (f .costs) named) rowOf))
+      let l : length rows ≡ length (map chunkRow (linesOfAll (f .costs) named)) + length rest = ap length e ∙ length-append (map chunkRow (linesOfAll (f .costs) named)) rest in
+      (omega (arith, few, counted), omega (arith, counted, length-map (linesOfAll (f .costs) named) chunkRow))
 
   -- The lines in the records, and then the answer, are what the move prints.
-  pub clock-text : (rows rest : List (List ℕ)) → rows ≡ map rowOf (linesOfAll (f .costs) named) ++ rest
+  pub clock-text : (rows rest : List (List ℕ)) → rows ≡ map chunkRow (linesOfAll (f .costs) named) ++ rest
       → rowTexts (take (r .due .lines) rows) ++ answerText (said (r .answer)) ≡ chunkTexts (moveLines f t lent) ++ answerText (moveSaid f t lent)
   clock-text rows rest e =
       ap₂ (λ (y z : List ℕ). y ++ z)

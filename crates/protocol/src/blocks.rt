@@ -101,11 +101,11 @@ pub fn answer_block(
         } else {
             match order {
                 Order::Query(query) => {
-                    let answer = match query {
+                    let told = match query {
                         Query::Account(show) => farm.account_unchecked(show),
                         Query::Quote(offer) => farm.quote_unchecked(offer),
                     };
-                    at = put_answer(out, at, answer);
+                    at = put_answer(out, at, told);
                 }
                 Order::Command(command) => {
                     let decision = match command {

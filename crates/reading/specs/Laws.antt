@@ -14,7 +14,7 @@ use Rattle.text.specs.Model.{tab, valueFrom, value}
 use Rattle.reading.specs.declared.Row.{Row}
 use Rattle.reading.specs.declared.Kind.{Kind}
 use Rattle.reading.specs.declared.Kind.the-variants as kind
-use Rattle.reading.specs.Model.{same, onFirst, fields, allDigits, isNumber, allNumbers, wordOf, kindAmong, kindOf, fits, othersOf, lineKind, numbersOf, readable, rowWith, rowOf}
+use Rattle.reading.specs.Model.{same, onFirst, fields, allDigits, isNumber, allNumbers, kindWord, kindAmong, kindOf, fits, othersOf, lineKind, numbersOf, readable, rowWith, rowOf}
 use Rattle.reading.specs.Steps.{fields-cut, power-more}
 
 -- ---- Fields lose nothing
@@ -151,7 +151,7 @@ row-kept bs = kept-step (readable bs) bs refl
 -- ---- A kind's word
 
 -- Each kind is read from its own word, so no two kinds share one.
-pub kind-word : (k : Kind) → kindOf (wordOf k) ≡ k
+pub kind-word : (k : Kind) → kindOf (kindWord k) ≡ k
 unfolding kindOf kindAmong same
 kind-word kind.Farm = refl
 kind-word kind.Job = refl

@@ -57,14 +57,14 @@ allNumbers (f ∷ fs) = isNumber f && allNumbers fs
 -- ---- Kinds
 
 -- the word of each kind: farm, job, clock, account, withdraw and quote; a line that cannot be read has none
-abbrev pub wordOf : Kind → List ℕ
-wordOf kind.Farm = 102 ∷ 97 ∷ 114 ∷ 109 ∷ []
-wordOf kind.Job = 106 ∷ 111 ∷ 98 ∷ []
-wordOf kind.Clock = 99 ∷ 108 ∷ 111 ∷ 99 ∷ 107 ∷ []
-wordOf kind.Account = 97 ∷ 99 ∷ 99 ∷ 111 ∷ 117 ∷ 110 ∷ 116 ∷ []
-wordOf kind.Withdraw = 119 ∷ 105 ∷ 116 ∷ 104 ∷ 100 ∷ 114 ∷ 97 ∷ 119 ∷ []
-wordOf kind.Quote = 113 ∷ 117 ∷ 111 ∷ 116 ∷ 101 ∷ []
-wordOf kind.Unreadable = []
+abbrev pub kindWord : Kind → List ℕ
+kindWord kind.Farm = 102 ∷ 97 ∷ 114 ∷ 109 ∷ []
+kindWord kind.Job = 106 ∷ 111 ∷ 98 ∷ []
+kindWord kind.Clock = 99 ∷ 108 ∷ 111 ∷ 99 ∷ 107 ∷ []
+kindWord kind.Account = 97 ∷ 99 ∷ 99 ∷ 111 ∷ 117 ∷ 110 ∷ 116 ∷ []
+kindWord kind.Withdraw = 119 ∷ 105 ∷ 116 ∷ 104 ∷ 100 ∷ 114 ∷ 97 ∷ 119 ∷ []
+kindWord kind.Quote = 113 ∷ 117 ∷ 111 ∷ 116 ∷ 101 ∷ []
+kindWord kind.Unreadable = []
 
 -- the kinds that a word names
 abbrev pub kinds : List Kind
@@ -73,7 +73,7 @@ kinds = kind.Farm ∷ kind.Job ∷ kind.Clock ∷ kind.Account ∷ kind.Withdraw
 -- the one among these kinds whose word it is
 unfoldable pub kindAmong : List Kind → List ℕ → Kind
 kindAmong [] w = kind.Unreadable
-kindAmong (k ∷ ks) w = cond (same w (wordOf k)) k (kindAmong ks w)
+kindAmong (k ∷ ks) w = cond (same w (kindWord k)) k (kindAmong ks w)
 
 unfoldable pub kindOf : List ℕ → Kind
 kindOf w = kindAmong kinds w

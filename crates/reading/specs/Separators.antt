@@ -14,7 +14,7 @@ use Rattle.text.specs.Model.{tab, newline}
 use Rattle.reading.specs.declared.Field.{Field}
 use Rattle.reading.specs.declared.Kind.{Kind}
 use Rattle.reading.specs.declared.Kind.the-variants as kind
-use Rattle.reading.specs.Model.{same, allDigits, wordOf, kinds, kindAmong, kindOf, readable, rowWith, rowOf}
+use Rattle.reading.specs.Model.{same, allDigits, kindWord, kinds, kindAmong, kindOf, readable, rowWith, rowOf}
 use Rattle.reading.specs.Steps.{fields-cut, behind, behind-next, gathered, gathered-end}
 
 -- the field from a place on: where it ends, and whether that is not at a newline
@@ -98,7 +98,7 @@ broken-same [] ys h k = absurd (omega arith)
 broken-same (x ∷ xs) [] h k = refl
 broken-same (x ∷ xs) (y ∷ ys) h k = same-step (eqb x newline) (eqb y newline) x y xs ys refl refl h k (broken-same xs ys)
 
-word-whole : (k : Kind) → before (this newline) (wordOf k) ≡ length (wordOf k)
+word-whole : (k : Kind) → before (this newline) (kindWord k) ≡ length (kindWord k)
 unfolding before
 word-whole kind.Farm = refl
 word-whole kind.Job = refl
@@ -111,7 +111,7 @@ word-whole kind.Unreadable = refl
 broken-kind : (ks : List Kind) (w : List ℕ) → Broken w → kindAmong ks w ≡ kind.Unreadable
 unfolding kindAmong
 broken-kind [] w h = refl
-broken-kind (k ∷ ks) w h = rw (broken-same w (wordOf k) h (word-whole k)) (broken-kind ks w h)
+broken-kind (k ∷ ks) w h = rw (broken-same w (kindWord k) h (word-whole k)) (broken-kind ks w h)
 
 field-broken : (xs : List ℕ) (from : ℕ) (r : Field) → r ≡ fieldFrom xs from → r .whole ≡ false → Broken (take (before (this tab) (drop from xs)) (drop from xs))
 field-broken xs from r h e = let w : fieldFrom xs from .whole ≡ false = rw h at e in before-newline (drop from xs) (rw getD-drop (not-false _ w))

@@ -8,7 +8,7 @@ ghost use lib.ListN.{length, drop, set, replicate};
 ghost use Rattle.reading.specs.Model.{same, kindOf, fits, rowWith, rowOf};
 ghost use Rattle.reading.specs.Separators.{fieldFrom};
 ghost use Rattle.reading.specs.Steps.{numberIn, behind, gathered};
-use numbers::least;
+use numbers::smaller_size;
 use numbers::wide8;
 use search::next_of;
 
@@ -241,7 +241,7 @@ pub fn read(line: &[u8]) -> Row
     let numbers = x.numbers;
     Row {
         kind,
-        count: least(39, x.count),
+        count: smaller_size(39, x.count),
         numbers,
     }
 }

@@ -49,7 +49,7 @@ fn marks(w: u64, a: u8, b: u8) -> u64
 }
 
 // The byte of a word that the lowest mark is in.
-fn place_of(t: u64) -> usize
+fn mark_place(t: u64) -> usize
     ensures { λ r. ⌜ r ≡ trailingZeros 64 t / 8 ⌝ }
 {
     (wide32(u64::trailing_zeros(t)) / 8) as usize
@@ -87,7 +87,7 @@ pub fn next_of(text: &[u8], from: usize, a: u8, b: u8) -> usize
     while 8 <= n - i {
         let t = marks(eight(text, i), a, b);
         if t != 0 {
-            return i + place_of(t);
+            return i + mark_place(t);
         }
         i += 8;
     }

@@ -7,7 +7,7 @@ ghost use lib.Dec.{leb, eqb};
 ghost use Prim.Native.Nat.{_+_, _-_, _≤_, _<_};
 ghost use Rattle.shares.specs.Model.{sendEnd, chunkFinish, first, answers, nextOf, fewestOf, earliest, earliestOf, sharesOf};
 ghost use Rattle.shares.specs.Slack.{costsOf, Found};
-use numbers::less;
+use numbers::difference;
 use numbers::smaller;
 
 // Ticks: to send a unit (document 01's m), to compute a unit (p), to set up a send on the link (ST), to
@@ -69,7 +69,7 @@ pub fn chunk_finish(costs: Costs, from: u64, units: u64) -> u64
 pub fn first_share(costs: Costs, window: u64) -> u64
     ensures { λ r. ⌜ r ≡ first costs window ⌝ }
 {
-    let spare = less(less(window, costs.linksetup), costs.nodesetup);
+    let spare = difference(difference(window, costs.linksetup), costs.nodesetup);
     if spare < costs.send {
         return 0;
     }
@@ -88,7 +88,7 @@ pub fn next_share(costs: Costs, window: u64) -> Share
     ensures { λ r. ⌜ r ≡ nextOf costs window ⌝ }
 {
     let units = first_share(costs, window);
-    let left = less(window, costs.linksetup + units * costs.send);
+    let left = difference(window, costs.linksetup + units * costs.send);
     Share { units, left }
 }
 
@@ -146,7 +146,7 @@ fn capacity(
         return 0;
     }
     let each = send + compute;
-    let room = less(less(window, link), node);
+    let room = difference(difference(window, link), node);
     if room < each {
         *gap = smaller(*gap, each - room);
         return 0;
@@ -155,7 +155,7 @@ fn capacity(
     let over = room - share * each;
     *spare = smaller(*spare, over);
     *gap = smaller(*gap, each - over);
-    let left = less(window, link + share * send);
+    let left = difference(window, link + share * send);
     share + capacity(send, compute, link, node, nodes - 1, left, spare, gap)
 }
 
@@ -209,11 +209,11 @@ fn setups(costs: Costs, nodes: usize) -> Tried {
 
 // The window between two others that should hold `need` units more than the shorter one, in proportion.
 fn in_proportion(short: Tried, long: Tried, need: u64) -> u64 {
-    let more = less(long.units, short.units);
+    let more = difference(long.units, short.units);
     if more == 0 {
         return short.window;
     }
-    let span = less(long.window, short.window);
+    let span = difference(long.window, short.window);
     std::num::wrapping_add_u64(short.window, product(span, need) / more)
 }
 
@@ -221,9 +221,9 @@ fn in_proportion(short: Tried, long: Tried, need: u64) -> u64 {
 // as good as right, it is the next at which a share changes.
 fn guess(short: Tried, long: Tried, size: u64) -> u64 {
     if long.units == size {
-        return less(less(long.window, long.spare), 1);
+        return difference(difference(long.window, long.spare), 1);
     }
-    let need = less(size, short.units);
+    let need = difference(size, short.units);
     if need == 1 {
         return std::num::wrapping_add_u64(short.window, short.gap);
     }
@@ -260,7 +260,7 @@ fn settles(next: Tried, size: u64, send: u64) -> bool
     ensures { λ r. ⌜ r ≡ (eqb (next .units) size && leb (send - next .spare) (next .gap)) ⌝ }
 {
     if next.units == size {
-        return less(send, next.spare) <= next.gap;
+        return difference(send, next.spare) <= next.gap;
     }
     false
 }

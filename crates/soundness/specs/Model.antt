@@ -12,9 +12,9 @@ use Rattle.shares.specs.Lists.{Positive}
 use Rattle.limits.specs.Model.{between, allAtMost, allAtLeast, Between}
 use Rattle.booking.specs.Best.{freeAt, chosen, units}
 use Rattle.walk.specs.declared.Job.{Job}
-use Rattle.walk.specs.declared.Busy.{Busy}
+use Rattle.walk.specs.declared.FreeTimes.{FreeTimes}
 use Rattle.walk.specs.Model.{greatest, finishOf, spansOfAll, byStart, fitAll, Apart}
-use Rattle.soundness.specs.declared.Figures.{Figures}
+use Rattle.soundness.specs.declared.JobBounds.{JobBounds}
 
 -- ---- The test
 
@@ -27,15 +27,15 @@ unfoldable pub allDiffer : List ℕ → Bool
 allDiffer [] = true
 allDiffer (x ∷ xs) = noneOf x xs && allDiffer xs
 
-abbrev pub numbersOf : List Job → List ℕ
-numbersOf js = map (λ (j : Job). j .number) js
+abbrev pub jobNumbers : List Job → List ℕ
+jobNumbers js = map (λ (j : Job). j .number) js
 
 -- every node is one of n
 abbrev pub nodesKnown : ℕ → List ℕ → Bool
 nodesKnown n ks = allAtLeast 1 ks && allAtMost n ks
 
--- the figures of a waiting job
-unfoldable pub jobWithin : Figures → Job → Bool
+-- the bounds of a waiting job
+unfoldable pub jobWithin : JobBounds → Job → Bool
 jobWithin g j =
     between 1 (j .number) (g .used)
     && between 1 (j .show) (g .shows)
@@ -44,7 +44,7 @@ jobWithin g j =
     && leb (j .deadline) greatest
     && leb (j .booking .start) greatest
     && between 1 (j .booking .count) 64
-    && nodesKnown (g .nodes) (chosen (j .booking))
+    && nodesKnown (g .terms .nodes) (chosen (j .booking))
 
 -- a job's shares: each at least 1, its size in all, and finished by its deadline
 unfoldable pub sharesKept : FarmCosts → Job → Bool
@@ -52,24 +52,24 @@ sharesKept c j =
     allAtLeast 1 (units (j .booking)) && eqb (sum (units (j .booking))) (j .size) && leb (finishOf c j) (j .deadline)
 
 -- a waiting job by itself: its start not before the clock, its shares, and its finish
-unfoldable pub jobKept : Figures → Job → Bool
-jobKept g j = leb (g .clock) (j .booking .start) && sharesKept (g .costs) j
+unfoldable pub jobKept : JobBounds → Job → Bool
+jobKept g j = leb (g .terms .clock) (j .booking .start) && sharesKept (g .terms .costs) j
 
-unfoldable pub jobPasses : Figures → Job → Bool
+unfoldable pub jobPasses : JobBounds → Job → Bool
 jobPasses g j = jobWithin g j && jobKept g j
 
-unfoldable pub jobsPass : Figures → List Job → Bool
+unfoldable pub jobsPass : JobBounds → List Job → Bool
 jobsPass g [] = true
 jobsPass g (j ∷ js) = jobPasses g j && jobsPass g js
 
 -- the waiting jobs: each by itself, their numbers, and in order of start each behind the free times and those before it
-unfoldable pub waitingPass : Figures → Busy → List Job → Bool
-waitingPass g b js = jobsPass g js && allDiffer (numbersOf js) && fitAll b (spansOfAll (g .costs) (byStart js))
+unfoldable pub waitingPass : JobBounds → FreeTimes → List Job → Bool
+waitingPass g b js = jobsPass g js && allDiffer (jobNumbers js) && fitAll b (spansOfAll (g .terms .costs) (byStart js))
 
 -- ---- What the paper asks
 
--- a waiting job's figures are within their limits
-pub record JobWithin (g : Figures) (j : Job) : Type 0 where
+-- a waiting job's bounds are within their limits
+pub record JobWithin (g : JobBounds) (j : Job) : Type 0 where
   pub number : Between 1 (j .number) (g .used)
   pub show : Between 1 (j .show) (g .shows)
   pub size : Between 1 (j .size) 1_000_000
@@ -77,22 +77,22 @@ pub record JobWithin (g : Figures) (j : Job) : Type 0 where
   pub deadline : j .deadline ≤ greatest
   pub start : j .booking .start ≤ greatest
   pub count : Between 1 (j .booking .count) 64
-  pub nodes : All (λ (k : ℕ). Between 1 k (g .nodes)) (chosen (j .booking))
+  pub nodes : All (λ (k : ℕ). Between 1 k (g .terms .nodes)) (chosen (j .booking))
 
 -- a waiting booking is sound: no start before the clock or the link's free time, no node taken before its free time, shares of at least 1
--- that add up to the size, every finish by its deadline. Sends and finishes are as the job's own costs make them by construction: a booking stores its
+-- that add up to the size, every finish by its deadline. Sendable and finishes are as the job's own costs make them by construction: a booking stores its
 -- start, nodes and shares, and the rest is worked out (`linesOf`).
-pub record JobSound (g : Figures) (b : Busy) (j : Job) : Type 0 where
-  pub clock : g .clock ≤ j .booking .start
+pub record JobSound (g : JobBounds) (b : FreeTimes) (j : Job) : Type 0 where
+  pub clock : g .terms .clock ≤ j .booking .start
   pub link : b .link ≤ j .booking .start
   pub free : All (λ (k : ℕ). freeAt (b .free) k ≤ j .booking .start) (chosen (j .booking))
   pub each : Positive (units (j .booking))
   pub all : sum (units (j .booking)) ≡ j .size
-  pub ends : finishOf (g .costs) j ≤ j .deadline
+  pub ends : finishOf (g .terms .costs) j ≤ j .deadline
 
-pub record Sound (g : Figures) (b : Busy) (js : List Job) : Type 0 where
+pub record Sound (g : JobBounds) (b : FreeTimes) (js : List Job) : Type 0 where
   pub jobs : All (JobSound g b) js
   -- sends and node spans apart, pairwise
-  pub apart : Pairs Apart (spansOfAll (g .costs) js)
+  pub apart : Pairs Apart (spansOfAll (g .terms .costs) js)
   -- job numbers all different (that they are among those used is in JobWithin)
-  pub differ : Differ (numbersOf js)
+  pub differ : Differ (jobNumbers js)

@@ -13,18 +13,18 @@ use Rattle.limits.specs.Model.{CostsWithin}
 use Rattle.limits.specs.Says.{Says, says-le, says-eq, says-not-eq, says-as, says-then, says-both, says-between, says-at-most, says-at-least}
 use Rattle.booking.specs.Best.{freeAt, chosen, units}
 use Rattle.walk.specs.declared.Job.{Job}
-use Rattle.walk.specs.declared.Busy.{Busy}
+use Rattle.walk.specs.declared.FreeTimes.{FreeTimes}
 use Rattle.walk.specs.Model.{greatest, chunkTerms, finishOf, spansOf, spansOfAll, byStart, fitAll, Apart, JobSized}
 use Rattle.walk.specs.Chain.{Fits, Proper, fit-all-chain, chain-follows, follows-apart, job-proper}
 use Rattle.walk.specs.Order.{by-start-perm, by-start-grows}
-use Rattle.soundness.specs.declared.Figures.{Figures}
-use Rattle.soundness.specs.Model.{noneOf, allDiffer, numbersOf, jobWithin, sharesKept, jobKept, jobPasses, jobsPass, waitingPass, JobWithin, Sound}
+use Rattle.soundness.specs.declared.JobBounds.{JobBounds}
+use Rattle.soundness.specs.Model.{noneOf, allDiffer, jobNumbers, jobWithin, sharesKept, jobKept, jobPasses, jobsPass, waitingPass, JobWithin, Sound}
 use Rattle.soundness.specs.Sweep.{spans-each, spans-all, spans-perm, apart-sym, apart-follows, spans-first, spans-free, spans-fit}
 
--- figures with which no sum wraps
-pub record Usable (g : Figures) : Type 0 where
-  pub nodes : g .nodes ≤ 64
-  pub costs : CostsWithin (g .costs)
+-- bounds with which no sum wraps
+pub record Usable (g : JobBounds) : Type 0 where
+  pub nodes : g .terms .nodes ≤ 64
+  pub costs : CostsWithin (g .terms .costs)
 
 -- ---- The jobs' numbers
 
@@ -41,8 +41,8 @@ says-differ (x ∷ xs) = says-both (says-none-of x xs) (says-differ xs)
 
 -- ---- A job by itself
 
--- The test of a job's figures says that each is within its limits.
-pub says-job-within : (g : Figures) (j : Job) → Says (jobWithin g j) (JobWithin g j)
+-- The test of a job's bounds says that each is within its limits.
+pub says-job-within : (g : JobBounds) (j : Job) → Says (jobWithin g j) (JobWithin g j)
 unfolding jobWithin
 says-job-within g j =
     says-as
@@ -70,25 +70,25 @@ says-job-within g j =
     (says-le (j .deadline) greatest))
     (says-le (j .booking .start) greatest))
     (says-between 1 (j .booking .count) 64))
-    (says-both (says-at-least 1 (chosen (j .booking))) (says-at-most (g .nodes) (chosen (j .booking)))))
+    (says-both (says-at-least 1 (chosen (j .booking))) (says-at-most (g .terms .nodes) (chosen (j .booking)))))
 
 -- a waiting job by itself: its start not before the clock, its shares, and its finish
-pub record JobKept (g : Figures) (j : Job) : Type 0 where
-  pub clock : g .clock ≤ j .booking .start
+pub record JobKept (g : JobBounds) (j : Job) : Type 0 where
+  pub clock : g .terms .clock ≤ j .booking .start
   pub each : Positive (units (j .booking))
   pub all : sum (units (j .booking)) ≡ j .size
-  pub ends : finishOf (g .costs) j ≤ j .deadline
+  pub ends : finishOf (g .terms .costs) j ≤ j .deadline
 
 -- The test of a job by itself says that it keeps the clock, its size and its deadline.
-pub says-job-kept : (g : Figures) (j : Job) → Says (jobKept g j) (JobKept g j)
+pub says-job-kept : (g : JobBounds) (j : Job) → Says (jobKept g j) (JobKept g j)
 unfolding jobKept sharesKept
 says-job-kept g j =
     says-as (λ h. record { clock = h .0; each = h .1 .0 .0; all = h .1 .0 .1; ends = h .1 .1 }) (λ h. (h .clock, ((h .each, h .all), h .ends)))
-    (says-both (says-le (g .clock) (j .booking .start))
-    (says-both (says-both (says-at-least 1 (units (j .booking))) (says-eq (sum (units (j .booking))) (j .size))) (says-le (finishOf (g .costs) j) (j .deadline))))
+    (says-both (says-le (g .terms .clock) (j .booking .start))
+    (says-both (says-both (says-at-least 1 (units (j .booking))) (says-eq (sum (units (j .booking))) (j .size))) (says-le (finishOf (g .terms .costs) j) (j .deadline))))
 
 -- The test of the jobs says both of each.
-pub says-jobs : (g : Figures) (js : List Job) → Says (jobsPass g js) (All (λ (j : Job). JobWithin g j × JobKept g j) js)
+pub says-jobs : (g : JobBounds) (js : List Job) → Says (jobsPass g js) (All (λ (j : Job). JobWithin g j × JobKept g j) js)
 unfolding jobsPass jobPasses
 says-jobs g [] = record { yields = λ e. tt; follows = λ h. refl }
 says-jobs g (j ∷ js) = says-both (says-both (says-job-within g j) (says-job-kept g j)) (says-jobs g js)
@@ -96,31 +96,31 @@ says-jobs g (j ∷ js) = says-both (says-both (says-job-within g j) (says-job-ke
 -- ---- The sweep
 
 -- a job behind the free times
-abbrev pub Behind : Busy → Job → Type 0
+abbrev pub Behind : FreeTimes → Job → Type 0
 Behind b j = (b .link ≤ j .booking .start) × All (λ (k : ℕ). freeAt (b .free) k ≤ j .booking .start) (chosen (j .booking))
 
 -- as many nodes as shares, one at least
 abbrev pub Paired : Job → Type 0
 Paired j = (length (chosen (j .booking)) ≡ length (units (j .booking))) × (1 ≤ length (chosen (j .booking)))
 
-pub job-paired : (g : Figures) (j : Job) → JobSized j → JobWithin g j → Paired j
+pub job-paired : (g : JobBounds) (j : Job) → JobSized j → JobWithin g j → Paired j
 job-paired g j s w =
     let a : length (chosen (j .booking)) ≡ j .booking .count = length-take-le (j .booking .count) (j .booking .nodes) (omega (arith, s .nodes, w .count .1)) in
     let b : length (units (j .booking)) ≡ j .booking .count = length-take-le (j .booking .count) (j .booking .shares) (omega (arith, s .shares, w .count .1)) in
     (a ∙ sym b, omega (arith, w .count .0))
 
-pub fits-behind : (b : Busy) (c : FarmCosts) (j : Job) → Paired j → All (Fits b) (spansOf c j) → Behind b j
+pub fits-behind : (b : FreeTimes) (c : FarmCosts) (j : Job) → Paired j → All (Fits b) (spansOf c j) → Behind b j
 fits-behind b c j p h =
     let s = j .booking .start in
     (spans-first (chunkTerms c j) s b s (chosen (j .booking)) (units (j .booking)) (p .0) (p .1) h, spans-free (chunkTerms c j) s b s (chosen (j .booking)) (units (j .booking)) (p .0) h)
 
-behind-fits : (b : Busy) (c : FarmCosts) (j : Job) → Behind b j → All (Fits b) (spansOf c j)
+behind-fits : (b : FreeTimes) (c : FarmCosts) (j : Job) → Behind b j → All (Fits b) (spansOf c j)
 behind-fits b c j h =
     let s = j .booking .start in
     spans-fit (chunkTerms c j) s b s (chosen (j .booking)) (units (j .booking)) (h .0) (h .1)
 
 -- The sweep in order of start passes exactly if each job is behind the free times and all spans are apart.
-pub says-sweep : (c : FarmCosts) (b : Busy) (js : List Job) → length (b .free) ≡ 64 → All (λ (j : Job). Paired j × All (Proper 64) (spansOf c j)) js
+pub says-sweep : (c : FarmCosts) (b : FreeTimes) (js : List Job) → length (b .free) ≡ 64 → All (λ (j : Job). Paired j × All (Proper 64) (spansOf c j)) js
     → Says (fitAll b (spansOfAll c (byStart js))) (All (Behind b) js × Pairs Apart (spansOfAll c js))
 says-sweep c b js l g =
     let d : List·Permᴰ js (byStart js) = by-start-perm js in
@@ -141,12 +141,12 @@ says-sweep c b js l g =
 -- ---- The waiting jobs
 
 -- The spans of a job that is within its limits and kept are proper.
-pub job-spans : (g : Figures) (j : Job) → Usable g → JobWithin g j → Positive (units (j .booking)) → All (Proper 64) (spansOf (g .costs) j)
+pub job-spans : (g : JobBounds) (j : Job) → Usable g → JobWithin g j → Positive (units (j .booking)) → All (Proper 64) (spansOf (g .terms .costs) j)
 job-spans g j u w p =
-    job-proper (g .costs) 64 j (u .costs .send .0) (all-map (λ k b. (b .0, omega (arith, b .1, u .nodes))) (chosen (j .booking)) (w .nodes)) p
+    job-proper (g .terms .costs) 64 j (u .costs .send .0) (all-map (λ k b. (b .0, omega (arith, b .1, u .nodes))) (chosen (j .booking)) (w .nodes)) p
 
 -- **The waiting jobs.** The test passes exactly if each figure is within its limits and the bookings are sound.
-pub says-waiting : (g : Figures) (b : Busy) (js : List Job) → Usable g → length (b .free) ≡ 64 → All JobSized js → Says (waitingPass g b js) (All (JobWithin g) js × Sound g b js)
+pub says-waiting : (g : JobBounds) (b : FreeTimes) (js : List Job) → Usable g → length (b .free) ≡ 64 → All JobSized js → Says (waitingPass g b js) (All (JobWithin g) js × Sound g b js)
 unfolding waitingPass
 says-waiting g b js u l z =
     says-as
@@ -162,5 +162,5 @@ says-waiting g b js u l z =
       (all-both (λ j a k. (a, record { clock = k .clock; each = k .each; all = k .all; ends = k .ends })) js (h .0) (h .1 .jobs), h .1 .differ),
       (all-map (λ j k. (k .link, k .free)) js (h .1 .jobs), h .1 .apart),
     ))
-    (says-then (says-both (says-jobs g js) (says-differ (numbersOf js)))
-    (λ p. says-sweep (g .costs) b js l (all-both (λ j s h. (job-paired g j s (h .0), job-spans g j u (h .0) (h .1 .each))) js z (p .0))))
+    (says-then (says-both (says-jobs g js) (says-differ (jobNumbers js)))
+    (λ p. says-sweep (g .terms .costs) b js l (all-both (λ j s h. (job-paired g j s (h .0), job-spans g j u (h .0) (h .1 .each))) js z (p .0))))

@@ -18,15 +18,15 @@ use Rattle.keys.specs.Model.{noKey}
 use Rattle.booking.specs.declared.Booking.{Booking}
 use Rattle.booking.specs.Best.{freeAt, chosen, units}
 use Rattle.walk.specs.declared.Job.{Job}
-use Rattle.walk.specs.declared.Busy.{Busy}
+use Rattle.walk.specs.declared.FreeTimes.{FreeTimes}
 use Rattle.walk.specs.declared.Chunk.{Chunk}
 use Rattle.walk.specs.declared.ChunkTerms.{ChunkTerms}
 use Rattle.walk.specs.Model.{greatest, noJob, finishOf, chunkTerms, chunkAt, Span, placed, spansOf, spansOfAll, after, byStart, inOrder, fitAll}
-use Rattle.walk.specs.Chunks.{Sends, linesFrom, latestFrom, lines-next, lines-none, latest-next, latest-none}
-use Rattle.soundness.specs.declared.Figures.{Figures}
+use Rattle.walk.specs.Chunks.{Sendable, linesFrom, latestFrom, lines-next, lines-none, latest-next, latest-none}
+use Rattle.soundness.specs.declared.JobBounds.{JobBounds}
 use Rattle.soundness.specs.declared.Fit.{Fit}
 use Rattle.soundness.specs.declared.Survey.{Survey}
-use Rattle.soundness.specs.Model.{noneOf, allDiffer, numbersOf, nodesKnown, jobWithin, sharesKept, jobKept, jobPasses, jobsPass, waitingPass}
+use Rattle.soundness.specs.Model.{noneOf, allDiffer, jobNumbers, nodesKnown, jobWithin, sharesKept, jobKept, jobPasses, jobsPass, waitingPass}
 use Rattle.soundness.specs.Sound.{Usable, says-job-within, says-jobs}
 
 -- ---- Promises
@@ -48,17 +48,17 @@ pub record Bounded (c : FarmCosts) (j : Job) : Type 0 where
   pub compute : j .compute ≤ 1_000_000
 
 -- what a survey of the first n jobs comes to
-pub record Surveys (g : Figures) (js : List Job) (n : ℕ) (r : Survey) : Type 0 where
+pub record Surveys (g : JobBounds) (js : List Job) (n : ℕ) (r : Survey) : Type 0 where
   pub tells : r .passes ≡ jobsPass g js
-  pub numbers : r .passes ≡ true → take n (r .numbers) ≡ numbersOf js
+  pub numbers : r .passes ≡ true → take n (r .numbers) ≡ jobNumbers js
   pub many : length (r .numbers) ≡ 128
 
 abbrev pub Inside : ℕ → Key → Type 0
 Inside n k = k .place < n
 
 -- r says of a job's chunks behind b whether they fit, and what they leave to all that follow
-pub record FitResult (c : FarmCosts) (b : Busy) (j : Job) (r : Fit) : Type 0 where
-  pub rest : (xs : List Span) → fitAll b (spansOf c j ++ xs) ≡ r .fits && fitAll (r .busy) xs
+pub record FitResult (c : FarmCosts) (b : FreeTimes) (j : Job) (r : Fit) : Type 0 where
+  pub rest : (xs : List Span) → fitAll b (spansOf c j ++ xs) ≡ r .fits && fitAll (r .times) xs
 
 -- ---- The nodes of a booking
 
@@ -155,7 +155,7 @@ module _ (w : ChunkTerms) (b : Booking) (n : length (chosen b) ≡ b .count) (u 
 -- ---- The jobs
 
 -- A job within its limits has sums that do not wrap.
-pub no-overflow-of : (g : Figures) (j : Job) → Usable g → jobWithin g j ≡ true → NoOverflow (g .costs) j
+pub no-overflow-of : (g : JobBounds) (j : Job) → Usable g → jobWithin g j ≡ true → NoOverflow (g .terms .costs) j
 no-overflow-of g j u e =
     let w = says-job-within g j .yields e in
     record {
@@ -167,7 +167,7 @@ no-overflow-of g j u e =
     }
 
 -- Jobs that pass by themselves finish within the time range.
-pub all-bounded : (g : Figures) (js : List Job) → Usable g → jobsPass g js ≡ true → All (Bounded (g .costs)) js
+pub all-bounded : (g : JobBounds) (js : List Job) → Usable g → jobsPass g js ≡ true → All (Bounded (g .terms .costs)) js
 all-bounded g js u e =
     all-map (λ j h. record {
       count = h .0 .count .1;
@@ -184,7 +184,7 @@ each-stored b h n u =
     (length-take-le (b .count) (b .nodes) (omega arith), length-take-le (b .count) (b .shares) (omega arith))
 
 -- Their chunks can be worked out.
-pub bounded-sends : (c : FarmCosts) (j : Job) → Bounded c j → length (j .booking .nodes) ≡ 64 → length (j .booking .shares) ≡ 64 → Sends c j
+pub bounded-sends : (c : FarmCosts) (j : Job) → Bounded c j → length (j .booking .nodes) ≡ 64 → length (j .booking .shares) ≡ 64 → Sendable c j
 bounded-sends c j b n u =
     let stored = each-stored (j .booking) (b .count) n u in
     record {
@@ -198,20 +198,20 @@ bounded-sends c j b n u =
     }
 
 -- A job's test ends at the first part that fails.
-pub job-out : (g : Figures) (j : Job) → jobWithin g j ≡ false → jobPasses g j ≡ false
+pub job-out : (g : JobBounds) (j : Job) → jobWithin g j ≡ false → jobPasses g j ≡ false
 unfolding jobPasses
 job-out g j e = rw e
 
-pub job-early : (g : Figures) (j : Job) → j .booking .start < g .clock → jobPasses g j ≡ false
+pub job-early : (g : JobBounds) (j : Job) → j .booking .start < g .terms .clock → jobPasses g j ≡ false
 unfolding jobPasses jobKept
-job-early g j h = rw (lt-leb (g .clock) (j .booking .start) h, and-false)
+job-early g j h = rw (lt-leb (g .terms .clock) (j .booking .start) h, and-false)
 
-pub job-whole : (g : Figures) (j : Job) → jobWithin g j ≡ true → g .clock ≤ j .booking .start
-    → jobPasses g j ≡ sharesKept (g .costs) j
+pub job-whole : (g : JobBounds) (j : Job) → jobWithin g j ≡ true → g .terms .clock ≤ j .booking .start
+    → jobPasses g j ≡ sharesKept (g .terms .costs) j
 unfolding jobPasses jobKept
-job-whole g j e h = rw (e, le-leb (g .clock) (j .booking .start) h)
+job-whole g j e h = rw (e, le-leb (g .terms .clock) (j .booking .start) h)
 
-module _ (g : Figures) (jobs : List Job) (i n : ℕ) (h : i < n) (k : n ≤ length jobs) where
+module _ (g : JobBounds) (jobs : List Job) (i n : ℕ) (h : i < n) (k : n ≤ length jobs) where
   pass-cons : jobsPass g (slice i n jobs) ≡ jobPasses g (getD jobs i noJob) && jobsPass g (slice (i + 1) n jobs)
   unfolding jobsPass
   pass-cons = rw (add-one, slice-cons i n jobs noJob h k)
@@ -222,19 +222,19 @@ module _ (g : Figures) (jobs : List Job) (i n : ℕ) (h : i < n) (k : n ≤ leng
   pub pass-stop : jobPasses g (getD jobs i noJob) ≡ false → jobsPass g (slice i n jobs) ≡ false
   pass-stop e = pass-cons ∙ rw e
 
-pub pass-none : (g : Figures) (jobs : List Job) (n : ℕ) → jobsPass g (slice n n jobs) ≡ true
+pub pass-none : (g : JobBounds) (jobs : List Job) (n : ℕ) → jobsPass g (slice n n jobs) ≡ true
 unfolding jobsPass
 pass-none g jobs n = rw (slice-empty n jobs)
 
 -- ---- The numbers
 
-numbers-snoc : (xs : List Job) (j : Job) → numbersOf (xs ++ j ∷ []) ≡ numbersOf xs ++ j .number ∷ []
+numbers-snoc : (xs : List Job) (j : Job) → jobNumbers (xs ++ j ∷ []) ≡ jobNumbers xs ++ j .number ∷ []
 numbers-snoc [] j = refl
 numbers-snoc (x ∷ xs) j = ap (λ (s : List ℕ). x .number ∷ s) (numbers-snoc xs j)
 
 -- One number more is written.
-pub numbers-more : (jobs : List Job) (out : List ℕ) (i : ℕ) → i < length jobs → i < length out → take i out ≡ numbersOf (take i jobs)
-    → take (i + 1) (set out i (getD jobs i noJob .number)) ≡ numbersOf (take (i + 1) jobs)
+pub numbers-more : (jobs : List Job) (out : List ℕ) (i : ℕ) → i < length jobs → i < length out → take i out ≡ jobNumbers (take i jobs)
+    → take (i + 1) (set out i (getD jobs i noJob .number)) ≡ jobNumbers (take (i + 1) jobs)
 numbers-more jobs out i h k e =
     rw (add-one, take-suc-set out i (getD jobs i noJob .number) k, take-suc jobs i noJob h, e, numbers-snoc (take i jobs) (getD jobs i noJob))
 
@@ -275,21 +275,21 @@ differ-none xs = rw (drop-length xs)
 -- ---- The chunks of a job behind the free times
 
 -- Of a booking's chunks those from the i-th on are left, behind `now`, the send before it having ended at t: whether all
--- fit behind `busy` is whether these fit behind `now`, whatever follows.
-pub record Fitting (w : ChunkTerms) (busy : Busy) (b : Booking) (now : Busy) (t i : ℕ) : Type 0 where
+-- fit behind `times` is whether these fit behind `now`, whatever follows.
+pub record Fitting (w : ChunkTerms) (times : FreeTimes) (b : Booking) (now : FreeTimes) (t i : ℕ) : Type 0 where
   pub rest : (xs : List Span)
-      → fitAll busy (placed (b .start) (linesFrom w b 0 (b .start)) ++ xs) ≡ fitAll now (placed (b .start) (linesFrom w b i t) ++ xs)
+      → fitAll times (placed (b .start) (linesFrom w b 0 (b .start)) ++ xs) ≡ fitAll now (placed (b .start) (linesFrom w b i t) ++ xs)
 
-pub fitting-start : (w : ChunkTerms) (busy : Busy) (b : Booking) → Fitting w busy b busy (b .start) 0
-fitting-start w busy b = record { rest = λ xs. refl }
+pub fitting-start : (w : ChunkTerms) (times : FreeTimes) (b : Booking) → Fitting w times b times (b .start) 0
+fitting-start w times b = record { rest = λ xs. refl }
 
 -- A job whose chunks can be worked out, what they have in common, and where the loop over them stands.
-module _ (c : FarmCosts) (busy : Busy) (j : Job) (s : Sends c j) (w : ChunkTerms) (q : w ≡ chunkTerms c j) (now : Busy) (t i : ℕ) (u : Fitting w busy (j .booking) now t i) where
+module _ (c : FarmCosts) (times : FreeTimes) (j : Job) (s : Sendable c j) (w : ChunkTerms) (q : w ≡ chunkTerms c j) (now : FreeTimes) (t i : ℕ) (u : Fitting w times (j .booking) now t i) where
   abbrev b : Booking
   b = j .booking
 
   -- The lines are the job's.
-  all-rest : (xs : List Span) → fitAll busy (spansOf c j ++ xs) ≡ fitAll now (placed (b .start) (linesFrom w b i t) ++ xs)
+  all-rest : (xs : List Span) → fitAll times (spansOf c j ++ xs) ≡ fitAll now (placed (b .start) (linesFrom w b i t) ++ xs)
   all-rest xs = rw (← q) (u .rest xs)
 
   module _ (h : i < b .count) (x : Chunk) (e : x ≡ chunkAt w b i t) where
@@ -300,24 +300,24 @@ module _ (c : FarmCosts) (busy : Busy) (j : Job) (s : Sends c j) (w : ChunkTerms
     next xs = rw (e, lines-next w b (s .nodes) (s .shares) i t h)
 
     -- The next chunk fits.
-    pub fitting-more : now .link ≤ x .start → freeAt (now .free) (x .node) ≤ b .start → Fitting w busy b (after now x) (x .sent) (i + 1)
+    pub fitting-more : now .link ≤ x .start → freeAt (now .free) (x .node) ≤ b .start → Fitting w times b (after now x) (x .sent) (i + 1)
     fitting-more p f = record { rest = λ xs. u .rest xs ∙ next xs ∙ rw (le-leb (now .link) (x .start) p, le-leb (freeAt (now .free) (x .node)) (b .start) f) }
 
     -- Its send overlaps.
-    pub fitting-link : x .start < now .link → FitResult c busy j (record { fits = false; busy = busy })
+    pub fitting-link : x .start < now .link → FitResult c times j (record { fits = false; times = times })
     fitting-link p = record { rest = λ xs. all-rest xs ∙ next xs ∙ rw (lt-leb (now .link) (x .start) p) }
 
     -- Its node is not free.
-    pub fitting-node : b .start < freeAt (now .free) (x .node) → FitResult c busy j (record { fits = false; busy = busy })
+    pub fitting-node : b .start < freeAt (now .free) (x .node) → FitResult c times j (record { fits = false; times = times })
     fitting-node p = record { rest = λ xs. all-rest xs ∙ next xs ∙ rw (lt-leb (freeAt (now .free) (x .node)) (b .start) p, and-false) }
 
   -- All chunks fit.
-  pub fitting-all : b .count ≤ i → FitResult c busy j (record { fits = true; busy = now })
+  pub fitting-all : b .count ≤ i → FitResult c times j (record { fits = true; times = now })
   fitting-all h = record { rest = λ xs. all-rest xs ∙ rw (lines-none w b (s .nodes) (s .shares) i t h) }
 
 -- ---- The jobs by their starts
 
-module _ (c : FarmCosts) (b : Busy) (jobs : List Job) (keys : List Key) (i n : ℕ) (h : i < n) (few : n ≤ length jobs) (fits : n ≤ length keys) (inside : All (Inside n) (take n keys)) where
+module _ (c : FarmCosts) (b : FreeTimes) (jobs : List Job) (keys : List Key) (i n : ℕ) (h : i < n) (few : n ≤ length jobs) (fits : n ≤ length keys) (inside : All (Inside n) (take n keys)) where
   pub key-inside : getD keys i noKey .place < n
   key-inside = all-front noKey (Inside n) keys n i h fits inside
 
@@ -330,28 +330,28 @@ module _ (c : FarmCosts) (b : Busy) (jobs : List Job) (keys : List Key) (i n : �
   turn-cons = rw (add-one, slice-cons i n keys noKey h fits, getD-take n jobs (getD keys i noKey .place) noJob key-inside)
 
   module _ (r : Fit) (s : FitResult c b (getD jobs (getD keys i noKey .place) noJob) r) where
-    pub turn-more : r .fits ≡ true → fitAll b (spansOfAll c (inOrder (take n jobs) (slice i n keys))) ≡ fitAll (r .busy) (spansOfAll c (inOrder (take n jobs) (slice (i + 1) n keys)))
+    pub turn-more : r .fits ≡ true → fitAll b (spansOfAll c (inOrder (take n jobs) (slice i n keys))) ≡ fitAll (r .times) (spansOfAll c (inOrder (take n jobs) (slice (i + 1) n keys)))
     turn-more e = ap (fitAll b) turn-cons ∙ s .rest _ ∙ rw e
 
     pub turn-stop : r .fits ≡ false → fitAll b (spansOfAll c (inOrder (take n jobs) (slice i n keys))) ≡ false
     turn-stop e = ap (fitAll b) turn-cons ∙ s .rest _ ∙ rw e
 
-pub turn-none : (c : FarmCosts) (b : Busy) (js : List Job) (keys : List Key) (n : ℕ) → fitAll b (spansOfAll c (inOrder js (slice n n keys))) ≡ true
+pub turn-none : (c : FarmCosts) (b : FreeTimes) (js : List Job) (keys : List Key) (n : ℕ) → fitAll b (spansOfAll c (inOrder js (slice n n keys))) ≡ true
 unfolding fitAll spansOfAll
 turn-none c b js keys n = rw (slice-empty n keys)
 
 -- ---- The answer
 
 -- The test ends at the first part that fails.
-pub waiting-unsound : (g : Figures) (b : Busy) (js : List Job) → jobsPass g js ≡ false → waitingPass g b js ≡ false
+pub waiting-unsound : (g : JobBounds) (b : FreeTimes) (js : List Job) → jobsPass g js ≡ false → waitingPass g b js ≡ false
 unfolding waitingPass
 waiting-unsound g b js e = rw e
 
-pub waiting-twice : (g : Figures) (b : Busy) (js : List Job) → allDiffer (numbersOf js) ≡ false → waitingPass g b js ≡ false
+pub waiting-twice : (g : JobBounds) (b : FreeTimes) (js : List Job) → allDiffer (jobNumbers js) ≡ false → waitingPass g b js ≡ false
 unfolding waitingPass
 waiting-twice g b js e = rw (e, and-false)
 
-pub waiting-rest : (g : Figures) (b : Busy) (js : List Job) → jobsPass g js ≡ true → allDiffer (numbersOf js) ≡ true
-    → waitingPass g b js ≡ fitAll b (spansOfAll (g .costs) (byStart js))
+pub waiting-rest : (g : JobBounds) (b : FreeTimes) (js : List Job) → jobsPass g js ≡ true → allDiffer (jobNumbers js) ≡ true
+    → waitingPass g b js ≡ fitAll b (spansOfAll (g .terms .costs) (byStart js))
 unfolding waitingPass
 waiting-rest g b js e h = rw (e, h)

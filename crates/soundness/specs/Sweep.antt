@@ -9,7 +9,7 @@ use Rattle.lists.specs.Laws.{All, Pairs, all-map, all-both, all-append, all-joi
 use Rattle.limits.specs.declared.FarmCosts.{FarmCosts}
 use Rattle.booking.specs.Best.{freeAt, chosen, units}
 use Rattle.walk.specs.declared.Job.{Job}
-use Rattle.walk.specs.declared.Busy.{Busy}
+use Rattle.walk.specs.declared.FreeTimes.{FreeTimes}
 use Rattle.walk.specs.declared.Chunk.{Chunk}
 use Rattle.walk.specs.declared.ChunkTerms.{ChunkTerms}
 use Rattle.walk.specs.Model.{Span, chunkTerms, chunkOn, chunksFrom, linesOf, spansOf, spansOfAll, Includes, Apart, placed}
@@ -85,20 +85,20 @@ module _ (w : ChunkTerms) (f : ℕ) where
       (out, spans-clear z (chunkOn w t k a .sent) ks xs out (n .1))
 
   -- where there is a first span, its send begins at t
-  pub spans-first : (b : Busy) (t : ℕ) (ks xs : List ℕ) → length ks ≡ length xs → 1 ≤ length ks → All (Fits b) (placed f (chunksFrom w t ks xs)) → b .link ≤ t
+  pub spans-first : (b : FreeTimes) (t : ℕ) (ks xs : List ℕ) → length ks ≡ length xs → 1 ≤ length ks → All (Fits b) (placed f (chunksFrom w t ks xs)) → b .link ≤ t
   unfolding chunksFrom
   spans-first b t [] xs e h n = absurd (omega arith)
   spans-first b t (k ∷ ks) [] e h n = absurd (omega arith)
   spans-first b t (k ∷ ks) (a ∷ xs) e h n = n .0 .0
 
   -- each node is free by f
-  pub spans-free : (b : Busy) (t : ℕ) (ks xs : List ℕ) → length ks ≡ length xs → All (Fits b) (placed f (chunksFrom w t ks xs)) → All (λ (k : ℕ). freeAt (b .free) k ≤ f) ks
+  pub spans-free : (b : FreeTimes) (t : ℕ) (ks xs : List ℕ) → length ks ≡ length xs → All (Fits b) (placed f (chunksFrom w t ks xs)) → All (λ (k : ℕ). freeAt (b .free) k ≤ f) ks
   unfolding chunksFrom
   spans-free b t [] xs e n = tt
   spans-free b t (k ∷ ks) [] e n = absurd (omega arith)
   spans-free b t (k ∷ ks) (a ∷ xs) e n = (n .0 .1, spans-free b (chunkOn w t k a .sent) ks xs (omega arith) (n .1))
 
-  pub spans-fit : (b : Busy) (t : ℕ) (ks xs : List ℕ) → b .link ≤ t → All (λ (k : ℕ). freeAt (b .free) k ≤ f) ks → All (Fits b) (placed f (chunksFrom w t ks xs))
+  pub spans-fit : (b : FreeTimes) (t : ℕ) (ks xs : List ℕ) → b .link ≤ t → All (λ (k : ℕ). freeAt (b .free) k ≤ f) ks → All (Fits b) (placed f (chunksFrom w t ks xs))
   unfolding chunksFrom
   spans-fit b t [] [] h n = tt
   spans-fit b t [] (a ∷ xs) h n = tt

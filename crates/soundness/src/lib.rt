@@ -1,4 +1,4 @@
-// Question 11 asked of the waiting jobs: each by itself against a few figures, their numbers, and all of them behind one another.
+// Question 11 asked of the waiting jobs: each by itself against a few bounds, their numbers, and all of them behind one another.
 // It knows no farm. Nothing is taken for granted of a job: what could make a sum wrap is tested before the sum is made.
 // What each function means is in specs/Model.antt.
 ghost use mathlib.Core.Path.{_≡_};
@@ -11,27 +11,27 @@ ghost use Rattle.soundness.specs.Sound.{Usable};
 ghost use Rattle.soundness.specs.Steps.{NoOverflow, Bounded, Inside, Surveys, FitResult};
 use keys::Key;
 use limits::FarmCosts;
+use limits::GREATEST;
 use limits::and;
 use limits::at_most;
 use limits::between;
-use numbers::least;
+use numbers::smaller_size;
 use numbers::wide;
 use numbers::wide8;
 use numbers::wide32;
-use walk::Busy;
+use walk::FreeTimes;
 use walk::Job;
 use walk::Time;
+use walk::WalkTerms;
 use walk::chunk_on;
 use walk::chunk_terms;
 use walk::keys_by;
 
-// What each waiting job is held against.
-pub struct Figures {
-    pub nodes: usize,
+// What each waiting job is held against: what a walk knows of the farm, its shows, and the job numbers used.
+pub struct JobBounds {
+    pub terms: WalkTerms,
     pub shows: usize,
     pub used: u64,
-    pub clock: u64,
-    pub costs: FarmCosts,
 }
 
 // Whether each job passes by itself and, if so, the jobs' numbers.
@@ -43,7 +43,7 @@ struct Survey {
 // Whether a job's chunks fit behind what came before them, and the free times after them.
 struct Fit {
     pub fits: bool,
-    pub busy: Busy,
+    pub times: FreeTimes,
 }
 
 // ---- A job by itself
@@ -53,7 +53,7 @@ fn nodes_known(nodes: [u8; 64], count: usize, limit: usize) -> bool
     ensures { λ r. ⌜ r ≡ nodesKnown limit (take count nodes) ⌝ }
 {
     let most = wide(limit);
-    let n = least(count, 64);
+    let n = smaller_size(count, 64);
     let mut i = 0;
     while i < n {
         let node = wide8(nodes[i]);
@@ -68,24 +68,25 @@ fn nodes_known(nodes: [u8; 64], count: usize, limit: usize) -> bool
     true
 }
 
-fn job_within(figures: Figures, job: Job) -> bool
-    ensures { λ r. ⌜ r ≡ jobWithin figures job ⌝ }
+fn job_within(bounds: JobBounds, job: Job) -> bool
+    ensures { λ r. ⌜ r ≡ jobWithin bounds job ⌝ }
 {
     let b = job.booking;
     let nodes = b.nodes;
+    let terms = bounds.terms;
     let named = and(
-        between(1, job.number, figures.used),
-        between(1, job.show, wide(figures.shows)),
+        between(1, job.number, bounds.used),
+        between(1, job.show, wide(bounds.shows)),
     );
     let sized = and(named, between(1, wide32(job.size), 1_000_000));
     let priced = and(sized, between(1, wide32(job.compute), 1_000_000));
     let timed = and(
-        and(priced, at_most(job.deadline, 1_000_000_000_000)),
-        at_most(b.start, 1_000_000_000_000),
+        and(priced, at_most(job.deadline, GREATEST)),
+        at_most(b.start, GREATEST),
     );
     and(
         and(timed, between(1, wide(b.count), 64)),
-        nodes_known(nodes, b.count, figures.nodes),
+        nodes_known(nodes, b.count, terms.nodes),
     )
 }
 
@@ -115,30 +116,31 @@ fn shares_kept(costs: FarmCosts, job: Job) -> bool
     and(total == wide32(job.size), last <= job.deadline)
 }
 
-fn job_passes(figures: Figures, job: Job) -> bool
-    requires { ⌜ Usable figures ⌝ }
-    ensures { λ r. ⌜ r ≡ jobPasses figures job ⌝ }
+fn job_passes(bounds: JobBounds, job: Job) -> bool
+    requires { ⌜ Usable bounds ⌝ }
+    ensures { λ r. ⌜ r ≡ jobPasses bounds job ⌝ }
 {
-    if !job_within(figures, job) {
+    if !job_within(bounds, job) {
         return false;
     }
     let b = job.booking;
-    if b.start < figures.clock {
+    let terms = bounds.terms;
+    if b.start < terms.clock {
         return false;
     }
-    shares_kept(figures.costs, job)
+    shares_kept(terms.costs, job)
 }
 
 // Each of the first `count` jobs by itself, and on the way their numbers: the jobs are gone through once.
-fn surveyed(figures: Figures, jobs: [Job; 128], count: usize) -> Survey
-    requires { ⌜ Usable figures × (count ≤ 128) ⌝ }
-    ensures { λ r. ⌜ Surveys figures (take count jobs) count r ⌝ }
+fn surveyed(bounds: JobBounds, jobs: [Job; 128], count: usize) -> Survey
+    requires { ⌜ Usable bounds × (count ≤ 128) ⌝ }
+    ensures { λ r. ⌜ Surveys bounds (take count jobs) count r ⌝ }
 {
     let mut numbers = [0u64; 128];
     let mut i = 0;
     while i < count {
         let job = jobs[i];
-        if !job_passes(figures, job) {
+        if !job_passes(bounds, job) {
             return Survey {
                 passes: false,
                 numbers,
@@ -186,24 +188,24 @@ fn all_differ(xs: &[u64]) -> bool
 // ---- The jobs behind one another
 
 // The chunks of a job, each behind what those before it have left.
-fn job_fits(costs: FarmCosts, busy: Busy, job: Job) -> Fit
+fn job_fits(costs: FarmCosts, times: FreeTimes, job: Job) -> Fit
     requires { ⌜ Bounded costs job ⌝ }
-    ensures { λ r. ⌜ FitResult costs busy job r ⌝ }
+    ensures { λ r. ⌜ FitResult costs times job r ⌝ }
 {
     let b = job.booking;
     let terms = chunk_terms(costs, job);
-    let mut link = busy.link;
-    let mut free = busy.free;
+    let mut link = times.link;
+    let mut free = times.free;
     let mut last = b.start;
     let mut i = 0;
     while i < b.count {
         let chunk = chunk_on(terms, b.nodes[i], b.shares[i], last);
         let place = chunk.node as usize - 1;
         if chunk.start < link {
-            return Fit { fits: false, busy };
+            return Fit { fits: false, times };
         }
         if b.start < free[place] {
-            return Fit { fits: false, busy };
+            return Fit { fits: false, times };
         }
         free[place] = chunk.finish;
         link = chunk.sent;
@@ -212,48 +214,54 @@ fn job_fits(costs: FarmCosts, busy: Busy, job: Job) -> Fit
     }
     Fit {
         fits: true,
-        busy: Busy { link, free },
+        times: FreeTimes { link, free },
     }
 }
 
 // The jobs in the order of the keys, each behind those before it.
-fn jobs_fit(costs: FarmCosts, busy: Busy, jobs: [Job; 128], keys: [Key; 128], count: usize) -> bool
+fn jobs_fit(
+    costs: FarmCosts,
+    times: FreeTimes,
+    jobs: [Job; 128],
+    keys: [Key; 128],
+    count: usize,
+) -> bool
     requires { ⌜ (count ≤ 128) × All (Bounded costs) (take count jobs) × All (Inside count) (take count keys) ⌝ }
-    ensures { λ r. ⌜ r ≡ fitAll busy (spansOfAll costs (inOrder (take count jobs) (take count keys))) ⌝ }
+    ensures { λ r. ⌜ r ≡ fitAll times (spansOfAll costs (inOrder (take count jobs) (take count keys))) ⌝ }
 {
-    let mut now_busy = busy;
+    let mut now_times = times;
     let mut i = 0;
     while i < count {
         let key = keys[i];
         let place = key.place;
-        let fit = job_fits(costs, now_busy, jobs[place]);
+        let fit = job_fits(costs, now_times, jobs[place]);
         if !fit.fits {
             return false;
         }
-        now_busy = fit.busy;
+        now_times = fit.times;
         i += 1;
     }
     true
 }
 
 // The jobs by their starts, one after the other. They mostly stand in that order already.
-fn in_turn(costs: FarmCosts, busy: Busy, jobs: [Job; 128], count: usize) -> bool
+fn in_turn(costs: FarmCosts, times: FreeTimes, jobs: [Job; 128], count: usize) -> bool
     requires { ⌜ (count ≤ 128) × All (Bounded costs) (take count jobs) ⌝ }
-    ensures { λ r. ⌜ r ≡ fitAll busy (spansOfAll costs (byStart (take count jobs))) ⌝ }
+    ensures { λ r. ⌜ r ≡ fitAll times (spansOfAll costs (byStart (take count jobs))) ⌝ }
 {
     let keys = keys_by(jobs, count, Time::Start);
     let order = keys::sorted(keys, count);
-    jobs_fit(costs, busy, jobs, order, count)
+    jobs_fit(costs, times, jobs, order, count)
 }
 
 // ---- The answer
 
 // Question 11 asked of the first `count` jobs: each by itself, their numbers, and all of them in order of start.
-pub fn waiting_pass(figures: Figures, busy: Busy, jobs: [Job; 128], count: usize) -> bool
-    requires { ⌜ Usable figures × (count ≤ 128) ⌝ }
-    ensures { λ r. ⌜ r ≡ waitingPass figures busy (take count jobs) ⌝ }
+pub fn waiting_pass(bounds: JobBounds, times: FreeTimes, jobs: [Job; 128], count: usize) -> bool
+    requires { ⌜ Usable bounds × (count ≤ 128) ⌝ }
+    ensures { λ r. ⌜ r ≡ waitingPass bounds times (take count jobs) ⌝ }
 {
-    let survey = surveyed(figures, jobs, count);
+    let survey = surveyed(bounds, jobs, count);
     if !survey.passes {
         return false;
     }
@@ -261,5 +269,6 @@ pub fn waiting_pass(figures: Figures, busy: Busy, jobs: [Job; 128], count: usize
     if !all_differ(&numbers[0..count]) {
         return false;
     }
-    in_turn(figures.costs, busy, jobs, count)
+    let terms = bounds.terms;
+    in_turn(terms.costs, times, jobs, count)
 }

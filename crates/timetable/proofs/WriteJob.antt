@@ -10,7 +10,7 @@ use borrow.Kind.Unit.{rUnit}
 use borrow.Kind.MutSlice.{pMutS}
 use borrow.Fn.Kinds.{PK, In, Out}
 use Rattle.walk.specs.Model.{linesOf}
-use Rattle.walk.specs.Chunks.{Sends}
+use Rattle.walk.specs.Chunks.{Sendable}
 use Rattle.timetable.proofs.Chunks as slice
 use Rattle.timetable.proofs.Structs as S
 use Rattle.timetable.proofs.Value.{param}
@@ -19,7 +19,7 @@ abbrev pub ps : List (PK 1)
 ps = pMutS slice.chunk 0 tt ∷ pNum w64 ∷ param S.costs ∷ param S.job ∷ []
 
 abbrev pub Pre : In 1 ps
-Pre κs a = Sends (a .1 .1 .0) (a .1 .1 .1 .0) × (a .1 .0 + a .1 .1 .1 .0 .booking .count ≤ length (now (a .0)))
+Pre κs a = Sendable (a .1 .1 .0) (a .1 .1 .1 .0) × (a .1 .0 + a .1 .1 .1 .0 .booking .count ≤ length (now (a .0)))
 
 abbrev pub Post : Out 1 ps rUnit
 Post κs a _ e =

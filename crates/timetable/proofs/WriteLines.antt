@@ -10,7 +10,7 @@ use borrow.Kind.Unit.{rUnit}
 use borrow.Kind.MutSlice.{pMutS}
 use borrow.Fn.Kinds.{PK, In, Out}
 use Rattle.lists.specs.Laws.{All}
-use Rattle.walk.specs.Chunks.{Sends}
+use Rattle.walk.specs.Chunks.{Sendable}
 use Rattle.timetable.specs.Model.{linesOfAll}
 use Rattle.timetable.specs.BeginSteps.{chunks}
 use Rattle.timetable.proofs.Chunks as slice
@@ -24,7 +24,7 @@ ps = pMutS slice.chunk 0 tt ∷ param S.costs ∷ params S.job 128 ∷ pNum w64 
 abbrev pub Pre : In 1 ps
 Pre κs a =
     let jobs = take (a .1 .1 .1 .0) (a .1 .1 .0) in
-    (a .1 .1 .1 .0 ≤ 128) × All (Sends (a .1 .0)) jobs × (chunks jobs ≤ length (now (a .0)))
+    (a .1 .1 .1 .0 ≤ 128) × All (Sendable (a .1 .0)) jobs × (chunks jobs ≤ length (now (a .0)))
 
 abbrev pub Post : Out 1 ps rUnit
 Post κs a _ e =

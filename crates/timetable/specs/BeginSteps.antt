@@ -4,14 +4,15 @@ use mathlib.Core.List.{List, [], _∷_, _++_}
 use Prim.Native.Nat.{ℕ, _+_, _-_, _≤_, _<_}
 use borrow.Author.Tests.{le-leb, lt-leb}
 use lib.ListN.{length, getD, take, drop}
+use Rattle.limits.specs.Model.{mostHeld}
 use Rattle.lists.specs.Laws.{All, front-next}
 use Rattle.lists.specs.Keep.{keep}
 use Rattle.limits.specs.declared.FarmCosts.{FarmCosts}
 use Rattle.walk.specs.declared.Job.{Job}
-use Rattle.walk.specs.declared.Busy.{Busy}
+use Rattle.walk.specs.declared.FreeTimes.{FreeTimes}
 use Rattle.walk.specs.declared.Chunk.{Chunk}
 use Rattle.walk.specs.Model.{noJob, afters}
-use Rattle.walk.specs.Chunks.{Sends}
+use Rattle.walk.specs.Chunks.{Sendable}
 use Rattle.timetable.specs.Model.{startsAfter}
 
 -- how many chunks jobs have
@@ -25,18 +26,18 @@ Few j = j .booking .count ≤ 64
 
 -- a job that can begin: its chunks can be worked out, its show has a cell, and the cell has room for what they add
 pub record Raises (c : FarmCosts) (held : List ℕ) (j : Job) : Type 0 where
-  pub sends : Sends c j
+  pub sends : Sendable c j
   pub show : (1 ≤ j .show) × (j .show ≤ 32)
   pub room : getD held (j .show - 1) 0 ≤ 10_000_000_000_000_000
 
 -- the same of several
 pub record RaisesAll (c : FarmCosts) (held : List ℕ) (js : List Job) : Type 0 where
-  pub sends : All (Sends c) js
+  pub sends : All (Sendable c) js
   pub shows : All (λ (j : Job). (1 ≤ j .show) × (j .show ≤ 32)) js
-  pub room : All (λ (j : Job). getD held (j .show - 1) 0 ≤ 64_000_000_000_000) js
+  pub room : All (λ (j : Job). getD held (j .show - 1) 0 ≤ mostHeld) js
 
 -- The free times behind two lists of lines, one after the other.
-pub afters-append : (b : Busy) (xs ys : List Chunk) → afters b (xs ++ ys) ≡ afters (afters b xs) ys
+pub afters-append : (b : FreeTimes) (xs ys : List Chunk) → afters b (xs ++ ys) ≡ afters (afters b xs) ys
 unfolding afters
 afters-append b [] ys = refl
 afters-append b (x ∷ xs) ys = afters-append _ xs ys

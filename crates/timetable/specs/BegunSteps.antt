@@ -4,14 +4,15 @@ use mathlib.Core.List.{List}
 use Prim.Native.Nat.{ℕ, _+_, _*_, _-_, _≤_, _<_}
 use native.Mathlib.Omega.{arith}
 use lib.ListN.{length, getD, take, drop}
+use Rattle.limits.specs.Model.{mostHeld}
 use Rattle.lists.specs.Laws.{front-next, front-none}
 use Rattle.limits.specs.declared.FarmCosts.{FarmCosts}
 use Rattle.keys.specs.declared.Key.{Key}
 use Rattle.keys.specs.Model.{noKey}
 use Rattle.walk.specs.declared.Job.{Job}
-use Rattle.walk.specs.declared.Busy.{Busy}
+use Rattle.walk.specs.declared.FreeTimes.{FreeTimes}
 use Rattle.walk.specs.Model.{noJob, linesOf, afters, inOrder}
-use Rattle.walk.specs.Chunks.{Sends}
+use Rattle.walk.specs.Chunks.{Sendable}
 use Rattle.timetable.specs.Model.{linesOfAll, raised}
 use Rattle.timetable.specs.BeginSteps.{Raises, RaisesAll, afters-append}
 use Rattle.timetable.specs.HeldSteps.{job-most, raised-append, raised-length}
@@ -19,42 +20,42 @@ use Rattle.timetable.specs.LinesSteps.{named-all}
 
 -- where the loop over the first n keys stands at key i: the jobs left leave what all of them leave of the first free times and cells, and each job
 -- passed has added at most 64 times the greatest tick
-pub record Beginning (c : FarmCosts) (jobs : List Job) (keys : List Key) (n : ℕ) (first : Busy) (held : List ℕ) (busy : Busy) (cells : List ℕ) (i : ℕ) : Type 0 where
+pub record Beginning (c : FarmCosts) (jobs : List Job) (keys : List Key) (n : ℕ) (first : FreeTimes) (held : List ℕ) (times : FreeTimes) (cells : List ℕ) (i : ℕ) : Type 0 where
   pub size : length cells ≡ 32
-  pub times : afters first (linesOfAll c (inOrder jobs (take n keys))) ≡ afters busy (linesOfAll c (inOrder jobs (drop i (take n keys))))
+  pub after : afters first (linesOfAll c (inOrder jobs (take n keys))) ≡ afters times (linesOfAll c (inOrder jobs (drop i (take n keys))))
   pub ticks : raised held (linesOfAll c (inOrder jobs (take n keys))) ≡ raised cells (linesOfAll c (inOrder jobs (drop i (take n keys))))
-  pub most : (k : ℕ) → getD cells k 0 ≤ getD held k 0 + i * 64_000_000_000_000
+  pub most : (k : ℕ) → getD cells k 0 ≤ getD held k 0 + i * mostHeld
 
-module _ (c : FarmCosts) (jobs : List Job) (keys : List Key) (n i : ℕ) (h : i < n) (f : n ≤ length keys) (first : Busy) (held : List ℕ) (busy : Busy) (cells : List ℕ) (x : Beginning c jobs keys n first held busy cells i) where
+module _ (c : FarmCosts) (jobs : List Job) (keys : List Key) (n i : ℕ) (h : i < n) (f : n ≤ length keys) (first : FreeTimes) (held : List ℕ) (times : FreeTimes) (cells : List ℕ) (x : Beginning c jobs keys n first held times cells i) where
   abbrev named : Job
   named = getD jobs (getD keys i noKey .place) noJob
 
   -- A job that comes behind fewer than 128 others can begin.
   pub beginning-raises : n ≤ 128 → RaisesAll c held (inOrder jobs (take n keys)) → Raises c cells named
   beginning-raises m r =
-      let room = named-all (λ (j : Job). getD held (j .show - 1) 0 ≤ 64_000_000_000_000) jobs keys n i h f (r .room) in
+      let room = named-all (λ (j : Job). getD held (j .show - 1) 0 ≤ mostHeld) jobs keys n i h f (r .room) in
       record {
-        sends = named-all (Sends c) jobs keys n i h f (r .sends);
+        sends = named-all (Sendable c) jobs keys n i h f (r .sends);
         show = named-all (λ (j : Job). (1 ≤ j .show) × (j .show ≤ 32)) jobs keys n i h f (r .shows);
         room = omega (arith, room, x .most (named .show - 1));
       }
 
   -- It has begun, and the others come next.
-  pub beginning-next : Sends c named → Beginning c jobs keys n first held (afters busy (linesOf c named)) (raised cells (linesOf c named)) (i + 1)
+  pub beginning-next : Sendable c named → Beginning c jobs keys n first held (afters times (linesOf c named)) (raised cells (linesOf c named)) (i + 1)
   unfolding linesOfAll
   beginning-next s =
       let next = front-next noKey keys n i h f in
       record {
         size = raised-length cells (linesOf c named) ∙ x .size;
-        times = x .times ∙ rw next (afters-append busy (linesOf c named) _);
+        after = x .after ∙ rw next (afters-append times (linesOf c named) _);
         ticks = x .ticks ∙ rw next (raised-append cells (linesOf c named) _);
         most = λ k. omega (arith, x .most k, job-most c cells named k s);
       }
 
 -- At the end all have begun.
-pub beginning-all : (c : FarmCosts) (jobs : List Job) (keys : List Key) (n i : ℕ) (first : Busy) (held : List ℕ) (busy : Busy) (cells : List ℕ) → n ≤ i → n ≤ length keys → Beginning c jobs keys n first held busy cells i
-    → (busy ≡ afters first (linesOfAll c (inOrder jobs (take n keys)))) × (cells ≡ raised held (linesOfAll c (inOrder jobs (take n keys)))) × (length cells ≡ 32)
+pub beginning-all : (c : FarmCosts) (jobs : List Job) (keys : List Key) (n i : ℕ) (first : FreeTimes) (held : List ℕ) (times : FreeTimes) (cells : List ℕ) → n ≤ i → n ≤ length keys → Beginning c jobs keys n first held times cells i
+    → (times ≡ afters first (linesOfAll c (inOrder jobs (take n keys)))) × (cells ≡ raised held (linesOfAll c (inOrder jobs (take n keys)))) × (length cells ≡ 32)
 unfolding linesOfAll afters raised
-beginning-all c jobs keys n i first held busy cells h f x =
+beginning-all c jobs keys n i first held times cells h f x =
     let none = front-none keys n i f h in
-    (sym (x .times ∙ rw none), sym (x .ticks ∙ rw none), x .size)
+    (sym (x .after ∙ rw none), sym (x .ticks ∙ rw none), x .size)

@@ -4,6 +4,7 @@ use mathlib.Core.List.{List, [], _∷_, _++_}
 use Prim.Native.Nat.{ℕ, zero, suc, _+_, _*_, _-_, _≤_, _<_}
 use native.Mathlib.Omega.{arith}
 use lib.ListN.{length, getD, set, length-set}
+use Rattle.limits.specs.Model.{mostHeld}
 use Rattle.limits.specs.declared.FarmCosts.{FarmCosts}
 use Rattle.booking.specs.declared.Booking.{Booking}
 use Rattle.booking.specs.Best.{chosen, units}
@@ -11,7 +12,7 @@ use Rattle.walk.specs.declared.Job.{Job}
 use Rattle.walk.specs.declared.Chunk.{Chunk}
 use Rattle.walk.specs.declared.ChunkTerms.{ChunkTerms}
 use Rattle.walk.specs.Model.{greatest, chunkAt, linesOf, latest}
-use Rattle.walk.specs.Chunks.{Sends, linesFrom, latestFrom, lines-next, ends-next}
+use Rattle.walk.specs.Chunks.{Sendable, linesFrom, latestFrom, lines-next, ends-next}
 use Rattle.timetable.specs.Model.{holds, raised}
 use Rattle.timetable.specs.LinesSteps.{job-lines}
 
@@ -48,7 +49,7 @@ raise-most hs t k (x ∷ xs) e =
     let one : getD now k 0 ≤ getD hs k 0 + holds x = add-most hs (x .show - 1) k (holds x) in
     omega arith
 
-pub job-most : (c : FarmCosts) (hs : List ℕ) (j : Job) (k : ℕ) → Sends c j → getD (raised hs (linesOf c j)) k 0 ≤ getD hs k 0 + 64_000_000_000_000
+pub job-most : (c : FarmCosts) (hs : List ℕ) (j : Job) (k : ℕ) → Sendable c j → getD (raised hs (linesOf c j)) k 0 ≤ getD hs k 0 + mostHeld
 job-most c hs j k x = omega (arith, x .few, job-lines c j x, raise-most hs (j .booking .start) k (linesOf c j) (x .ends))
 
 -- where the loop over a booking's chunks stands at chunk i, the send before it having ended at t: the chunks left raise

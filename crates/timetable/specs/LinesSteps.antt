@@ -13,10 +13,10 @@ use Rattle.walk.specs.declared.Job.{Job}
 use Rattle.walk.specs.declared.Chunk.{Chunk}
 use Rattle.walk.specs.declared.ChunkTerms.{ChunkTerms}
 use Rattle.walk.specs.Model.{noJob, chunkTerms, chunkOn, chunkAt, chunksFrom, linesOf, inOrder}
-use Rattle.walk.specs.Chunks.{Sends, linesFrom, lines-none, lines-next}
+use Rattle.walk.specs.Chunks.{Sendable, linesFrom, lines-none, lines-next}
 use Rattle.booking.specs.declared.Booking.{Booking}
 use Rattle.booking.specs.Best.{chosen, units}
-use Rattle.timetable.specs.Model.{linesOfAll, rowOf}
+use Rattle.timetable.specs.Model.{linesOfAll, chunkRow}
 use Rattle.timetable.specs.BeginSteps.{chunks}
 
 -- memory of which the first n records stand, then come these lines, and from place e on it is what it is
@@ -47,16 +47,16 @@ module _ (w : ChunkTerms) (b : Booking) (n : length (chosen b) ≡ b .count) (u 
       filled-next l at i end (chunkAt w b i t) rest (linesFrom w b i t) (lines-next w b n u i t h) (omega arith) k
 
   pub row-next : (l : List (List ℕ)) → end ≤ length l → (i t : ℕ) → i < b .count
-      → Filled l (at + i) (map rowOf (linesFrom w b i t)) end
-      ≡ Filled (set l (at + i) (rowOf (chunkAt w b i t))) (at + (i + 1)) (map rowOf (linesFrom w b (i + 1) (chunkAt w b i t .sent))) end
+      → Filled l (at + i) (map chunkRow (linesFrom w b i t)) end
+      ≡ Filled (set l (at + i) (chunkRow (chunkAt w b i t))) (at + (i + 1)) (map chunkRow (linesFrom w b (i + 1) (chunkAt w b i t .sent))) end
   row-next l k i t h =
-      let rest = map rowOf (linesFrom w b (i + 1) (chunkAt w b i t .sent)) in
-      filled-next l at i end (rowOf (chunkAt w b i t)) rest (map rowOf (linesFrom w b i t)) (ap (map rowOf) (lines-next w b n u i t h)) (omega arith) k
+      let rest = map chunkRow (linesFrom w b (i + 1) (chunkAt w b i t .sent)) in
+      filled-next l at i end (chunkRow (chunkAt w b i t)) rest (map chunkRow (linesFrom w b i t)) (ap (map chunkRow) (lines-next w b n u i t h)) (omega arith) k
 
   pub job-written : (l : List Chunk) (t : ℕ) → Filled l end (linesFrom w b (b .count) t) end ≡ l
   job-written l t = ap (λ (xs : List Chunk). Filled l end xs end) (lines-none w b n u (b .count) t (omega arith)) ∙ filled-all l end
 
-  pub row-written : (l : List (List ℕ)) (i t : ℕ) → b .count ≡ i → Filled l (at + i) (map rowOf (linesFrom w b i t)) end ≡ l
+  pub row-written : (l : List (List ℕ)) (i t : ℕ) → b .count ≡ i → Filled l (at + i) (map chunkRow (linesFrom w b i t)) end ≡ l
   row-written l i t e = rw (← e, lines-none w b n u (b .count) t (omega arith)) (filled-all l end)
 
 -- ---- Several jobs
@@ -69,11 +69,11 @@ lines-length w t [] (a ∷ xs) e = absurd (omega arith)
 lines-length w t (k ∷ ks) [] e = absurd (omega arith)
 lines-length w t (k ∷ ks) (a ∷ xs) e = ap suc (lines-length w (chunkOn w t k a .sent) ks xs (omega arith))
 
-pub job-lines : (c : FarmCosts) (j : Job) → Sends c j → length (linesOf c j) ≡ j .booking .count
+pub job-lines : (c : FarmCosts) (j : Job) → Sendable c j → length (linesOf c j) ≡ j .booking .count
 job-lines c j s = lines-length (chunkTerms c j) (j .booking .start) (chosen (j .booking)) (units (j .booking)) (s .nodes ∙ sym (s .shares)) ∙ s .shares
 
 -- So are those of several jobs.
-pub all-lines : (c : FarmCosts) (js : List Job) → All (Sends c) js → length (linesOfAll c js) ≡ chunks js
+pub all-lines : (c : FarmCosts) (js : List Job) → All (Sendable c) js → length (linesOfAll c js) ≡ chunks js
 unfolding linesOfAll chunks
 all-lines c [] h = refl
 all-lines c (j ∷ js) h = length-append (linesOf c j) (linesOfAll c js) ∙ omega (arith, job-lines c j (h .0), all-lines c js (h .1))
@@ -102,13 +102,13 @@ module _ (c : FarmCosts) (jobs : List Job) (n k : ℕ) (h : k < n) (f : n ≤ le
   next = getD jobs k noJob
 
   -- Its lines are stored, and those of the others come next.
-  pub stored-next : (l : List Chunk) (at e : ℕ) → All (Sends c) (take n jobs) → at + next .booking .count ≤ e → e ≤ length l
+  pub stored-next : (l : List Chunk) (at e : ℕ) → All (Sendable c) (take n jobs) → at + next .booking .count ≤ e → e ≤ length l
       → Filled l at (linesOfAll c (drop k (take n jobs))) e
       ≡ Filled (Filled l at (linesOf c next) (at + next .booking .count)) (at + next .booking .count) (linesOfAll c (drop (k + 1) (take n jobs))) e
   unfolding linesOfAll
   stored-next l at e a b d =
       ap (λ (js : List Job). Filled l at (linesOfAll c js) e) (front-next noJob jobs n k h f)
-      ∙ filled-more l (linesOf c next) (linesOfAll c (drop (k + 1) (take n jobs))) at (next .booking .count) e (job-lines c next (all-front noJob (Sends c) jobs n k h f a)) b d
+      ∙ filled-more l (linesOf c next) (linesOfAll c (drop (k + 1) (take n jobs))) at (next .booking .count) e (job-lines c next (all-front noJob (Sendable c) jobs n k h f a)) b d
 
 pub all-stored : (c : FarmCosts) (jobs : List Job) (n k : ℕ) (l : List Chunk) (e : ℕ) → n ≤ k → n ≤ length jobs → Filled l e (linesOfAll c (drop k (take n jobs))) e ≡ l
 unfolding linesOfAll
@@ -124,8 +124,8 @@ chunks-none jobs n k h f = ap chunks (front-none jobs n k f h)
 -- where the loop over the first n keys stands at key k, with `at` rows written: those left fill the memory to what all make of the first
 pub record Writing (c : FarmCosts) (jobs : List Job) (keys : List Key) (n : ℕ) (first rows : List (List ℕ)) (at k : ℕ) : Type 0 where
   pub size : length rows ≡ length first
-  pub same : Filled first 0 (map rowOf (linesOfAll c (inOrder jobs (take n keys)))) (chunks (inOrder jobs (take n keys)))
-      ≡ Filled rows at (map rowOf (linesOfAll c (inOrder jobs (drop k (take n keys))))) (chunks (inOrder jobs (take n keys)))
+  pub same : Filled first 0 (map chunkRow (linesOfAll c (inOrder jobs (take n keys)))) (chunks (inOrder jobs (take n keys)))
+      ≡ Filled rows at (map chunkRow (linesOfAll c (inOrder jobs (drop k (take n keys))))) (chunks (inOrder jobs (take n keys)))
   pub left : at + chunks (inOrder jobs (drop k (take n keys))) ≡ chunks (inOrder jobs (take n keys))
 
 module _ (c : FarmCosts) (jobs : List Job) (keys : List Key) (n k : ℕ) (h : k < n) (f : n ≤ length keys) (first rows : List (List ℕ)) (at : ℕ) (x : Writing c jobs keys n first rows at k) where
@@ -140,26 +140,26 @@ module _ (c : FarmCosts) (jobs : List Job) (keys : List Key) (n k : ℕ) (h : k 
       omega (arith, x .left)
 
   -- They are written, and those of the others come next.
-  pub writing-next : Sends c named → chunks (inOrder jobs (take n keys)) ≤ length first
-      → Writing c jobs keys n first (Filled rows at (map rowOf (linesOf c named)) (at + named .booking .count)) (at + named .booking .count) (k + 1)
+  pub writing-next : Sendable c named → chunks (inOrder jobs (take n keys)) ≤ length first
+      → Writing c jobs keys n first (Filled rows at (map chunkRow (linesOf c named)) (at + named .booking .count)) (at + named .booking .count) (k + 1)
   unfolding linesOfAll chunks
   writing-next s fits =
       let size = x .size in
       let room = writing-room in
       let rest = inOrder jobs (drop (k + 1) (take n keys)) in
       let next = front-next noKey keys n k h f in
-      let many : length (map rowOf (linesOf c named)) ≡ named .booking .count = length-map (linesOf c named) rowOf ∙ job-lines c named s in
+      let many : length (map chunkRow (linesOf c named)) ≡ named .booking .count = length-map (linesOf c named) chunkRow ∙ job-lines c named s in
       let e : chunks (inOrder jobs (drop k (take n keys))) ≡ named .booking .count + chunks rest = rw next in
-      let split : map rowOf (linesOfAll c (inOrder jobs (drop k (take n keys)))) ≡ map rowOf (linesOf c named) ++ map rowOf (linesOfAll c rest) = rw next (map-join rowOf (linesOf c named) (linesOfAll c rest)) in
+      let split : map chunkRow (linesOfAll c (inOrder jobs (drop k (take n keys)))) ≡ map chunkRow (linesOf c named) ++ map chunkRow (linesOfAll c rest) = rw next (map-join chunkRow (linesOf c named) (linesOfAll c rest)) in
       record {
-        size = filled-length rows (map rowOf (linesOf c named)) at (named .booking .count) many (omega arith) ∙ size;
-        same = x .same ∙ rw split (filled-more rows (map rowOf (linesOf c named)) (map rowOf (linesOfAll c rest)) at (named .booking .count) (chunks (inOrder jobs (take n keys))) many room (omega arith));
+        size = filled-length rows (map chunkRow (linesOf c named)) at (named .booking .count) many (omega arith) ∙ size;
+        same = x .same ∙ rw split (filled-more rows (map chunkRow (linesOf c named)) (map chunkRow (linesOfAll c rest)) at (named .booking .count) (chunks (inOrder jobs (take n keys))) many room (omega arith));
         left = omega (arith, x .left, e);
       }
 
 -- At the end all rows are written.
 pub writing-all : (c : FarmCosts) (jobs : List Job) (keys : List Key) (n k : ℕ) (first rows : List (List ℕ)) (at : ℕ) → n ≤ k → n ≤ length keys → Writing c jobs keys n first rows at k
-    → rows ≡ Filled first 0 (map rowOf (linesOfAll c (inOrder jobs (take n keys)))) (chunks (inOrder jobs (take n keys)))
+    → rows ≡ Filled first 0 (map chunkRow (linesOfAll c (inOrder jobs (take n keys)))) (chunks (inOrder jobs (take n keys)))
 unfolding linesOfAll chunks
 writing-all c jobs keys n k first rows at h f x =
     let none = front-none keys n k f h in

@@ -23,8 +23,8 @@ linesOfAll c [] = []
 linesOfAll c (j ∷ js) = linesOf c j ++ linesOfAll c js
 
 -- a line as a row of its eight numbers, in the order of the papers: the end of computing is the last
-abbrev pub rowOf : Chunk → List ℕ
-rowOf x = x .job ∷ x .show ∷ x .node ∷ x .units ∷ x .start ∷ x .sent ∷ x .finish ∷ x .computed ∷ []
+abbrev pub chunkRow : Chunk → List ℕ
+chunkRow x = x .job ∷ x .show ∷ x .node ∷ x .units ∷ x .start ∷ x .sent ∷ x .finish ∷ x .computed ∷ []
 
 -- what an issued chunk adds to its show's held ticks: its finish minus the start of its own send, document 02 (vi)
 abbrev pub holds : Chunk → ℕ

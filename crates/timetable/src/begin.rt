@@ -10,8 +10,8 @@ ghost use Rattle.timetable.specs.DueSteps.{IsDue};
 use crate::Due;
 use keys::Key;
 use limits::FarmCosts;
-use numbers::less;
-use walk::Busy;
+use numbers::difference;
+use walk::FreeTimes;
 use walk::Job;
 use walk::chunk_on;
 use walk::chunk_terms;
@@ -19,7 +19,7 @@ use walk::occupied;
 
 // What jobs leave once they have begun: the free times, and the held ticks.
 pub struct Begun {
-    pub busy: Busy,
+    pub times: FreeTimes,
     pub held: [u64; 32],
 }
 
@@ -88,7 +88,7 @@ pub fn raise(costs: FarmCosts, job: Job, held: &mut [u64; 32])
     let mut i = 0;
     while i < count {
         let chunk = chunk_on(terms, booking.nodes[i], booking.shares[i], last);
-        held[place] = held[place] + less(chunk.finish, chunk.start);
+        held[place] = held[place] + difference(chunk.finish, chunk.start);
         last = chunk.sent;
         i += 1;
     }
@@ -97,17 +97,17 @@ pub fn raise(costs: FarmCosts, job: Job, held: &mut [u64; 32])
 // The free times and the held ticks once the jobs that the first `count` keys name have begun, one after the other.
 pub fn begun_by(
     costs: FarmCosts,
-    busy: Busy,
+    times: FreeTimes,
     held: [u64; 32],
     jobs: [Job; 128],
     keys: [Key; 128],
     count: usize,
 ) -> Begun
     requires { ⌜ (count ≤ 128) × All (λ (k : Key). k .place < 128) (take count keys) × RaisesAll costs held (inOrder jobs (take count keys)) ⌝ }
-    ensures { λ r. ⌜ (r .busy ≡ afters busy (linesOfAll costs (inOrder jobs (take count keys)))) × (r .held ≡ raised held (linesOfAll costs (inOrder jobs (take count keys)))) × (length (r .held) ≡ 32) ⌝ }
+    ensures { λ r. ⌜ (r .times ≡ afters times (linesOfAll costs (inOrder jobs (take count keys)))) × (r .held ≡ raised held (linesOfAll costs (inOrder jobs (take count keys)))) × (length (r .held) ≡ 32) ⌝ }
 {
-    let mut free = busy.free;
-    let mut link = busy.link;
+    let mut free = times.free;
+    let mut link = times.link;
     let mut cells = held;
     let mut i = 0;
     while i < count {
@@ -119,7 +119,7 @@ pub fn begun_by(
         i += 1;
     }
     Begun {
-        busy: Busy { link, free },
+        times: FreeTimes { link, free },
         held: cells,
     }
 }

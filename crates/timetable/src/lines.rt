@@ -5,8 +5,8 @@ ghost use Prim.Native.Nat.{_+_, _≤_, _<_};
 ghost use lib.ListN.{length, take, drop};
 ghost use Rattle.lists.specs.Laws.{All};
 ghost use Rattle.walk.specs.Model.{linesOf, inOrder};
-ghost use Rattle.walk.specs.Chunks.{Sends};
-ghost use Rattle.timetable.specs.Model.{linesOfAll, rowOf};
+ghost use Rattle.walk.specs.Chunks.{Sendable};
+ghost use Rattle.timetable.specs.Model.{linesOfAll, chunkRow};
 ghost use Rattle.timetable.specs.BeginSteps.{chunks};
 ghost use Rattle.timetable.specs.LinesSteps.{Filled};
 use keys::Key;
@@ -33,7 +33,7 @@ fn count_of(job: Job) -> usize
 
 // Writes a job's lines from place `at` on.
 fn write_job(out: &mut [Chunk], at: usize, costs: FarmCosts, job: Job)
-    requires { ⌜ Sends costs job × (at + job .booking .count ≤ length (now out)) ⌝ }
+    requires { ⌜ Sendable costs job × (at + job .booking .count ≤ length (now out)) ⌝ }
     ensures { λ _. ⌜ now (out .exit) ≡ take at (now (out .entry)) ++ (linesOf costs job ++ drop (at + job .booking .count) (now (out .entry))) ⌝ }
 {
     let count = count_of(job);
@@ -50,7 +50,7 @@ fn write_job(out: &mut [Chunk], at: usize, costs: FarmCosts, job: Job)
 
 // Writes the lines of the first `count` jobs to the front.
 pub fn write_lines(out: &mut [Chunk], costs: FarmCosts, jobs: [Job; 128], count: usize)
-    requires { ⌜ (count ≤ 128) × All (Sends costs) (take count jobs) × (chunks (take count jobs) ≤ length (now out)) ⌝ }
+    requires { ⌜ (count ≤ 128) × All (Sendable costs) (take count jobs) × (chunks (take count jobs) ≤ length (now out)) ⌝ }
     ensures { λ _. ⌜ now (out .exit) ≡ linesOfAll costs (take count jobs) ++ drop (chunks (take count jobs)) (now (out .entry)) ⌝ }
 {
     let mut at: usize = 0;
@@ -66,8 +66,8 @@ pub fn write_lines(out: &mut [Chunk], costs: FarmCosts, jobs: [Job; 128], count:
 // Writes a job's lines from place `at` on, each as a row of the record's eight numbers. It takes a slice, since a lent
 // array's length is known to the proof only where the array is made one.
 fn write_row_job(rows: &mut [[u64; 8]], at: usize, costs: FarmCosts, job: Job)
-    requires { ⌜ Sends costs job × (at + job .booking .count ≤ length (now rows)) ⌝ }
-    ensures { λ _. ⌜ now (rows .exit) ≡ Filled (now (rows .entry)) at (map rowOf (linesOf costs job)) (at + job .booking .count) ⌝ }
+    requires { ⌜ Sendable costs job × (at + job .booking .count ≤ length (now rows)) ⌝ }
+    ensures { λ _. ⌜ now (rows .exit) ≡ Filled (now (rows .entry)) at (map chunkRow (linesOf costs job)) (at + job .booking .count) ⌝ }
 {
     let booking = job.booking;
     let count = booking.count;
@@ -100,8 +100,8 @@ pub fn write_rows(
     keys: [Key; 128],
     count: usize,
 )
-    requires { ⌜ (count ≤ 128) × All (λ (k : Key). k .place < 128) (take count keys) × All (Sends costs) (inOrder jobs (take count keys)) × (chunks (inOrder jobs (take count keys)) ≤ 1024) ⌝ }
-    ensures { λ _. ⌜ now (rows .exit) ≡ map rowOf (linesOfAll costs (inOrder jobs (take count keys))) ++ drop (chunks (inOrder jobs (take count keys))) (now (rows .entry)) ⌝ }
+    requires { ⌜ (count ≤ 128) × All (λ (k : Key). k .place < 128) (take count keys) × All (Sendable costs) (inOrder jobs (take count keys)) × (chunks (inOrder jobs (take count keys)) ≤ 1024) ⌝ }
+    ensures { λ _. ⌜ now (rows .exit) ≡ map chunkRow (linesOfAll costs (inOrder jobs (take count keys))) ++ drop (chunks (inOrder jobs (take count keys))) (now (rows .entry)) ⌝ }
 {
     let mut at: usize = 0;
     let mut k: usize = 0;

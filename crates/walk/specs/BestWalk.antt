@@ -16,24 +16,24 @@ use Rattle.booking.specs.Model.{bookingOf}
 use Rattle.booking.specs.Best.{NoChoice, Best, IsBooking}
 use Rattle.booking.specs.Booked.{best-some, book-is, book-iff}
 use Rattle.walk.specs.declared.Job.{Job}
-use Rattle.walk.specs.declared.Terms.{Terms}
-use Rattle.walk.specs.declared.Busy.{Busy}
-use Rattle.walk.specs.Model.{defaultCosts, linesOf, byDeadline, deadlineOf, requestOf, step, busyAfter, booksAll, InTurn}
+use Rattle.walk.specs.declared.WalkTerms.{WalkTerms}
+use Rattle.walk.specs.declared.FreeTimes.{FreeTimes}
+use Rattle.walk.specs.Model.{defaultCosts, linesOf, byDeadline, deadlineOf, requestOf, step, freeTimesAfter, booksAll, InTurn}
 use Rattle.walk.specs.Chain.{afters-length}
 use Rattle.walk.specs.Order.{Precedes, by-deadline-perm, by-deadline-sorted}
 use Rattle.walk.specs.WalkSteps.{Ready}
 
 -- each job has the best of all choices behind those before it
-abbrev pub BestAll : Terms → Busy → List Job → Type 0
+abbrev pub BestAll : WalkTerms → FreeTimes → List Job → Type 0
 BestAll = InTurn (λ w b j. Best (requestOf w b j) (b .free) (step w b j .booking))
 
 -- a job has no choice at all behind the best of those before it
-abbrev pub Fails : Terms → Busy → List Job → Type 0
+abbrev pub Fails : WalkTerms → FreeTimes → List Job → Type 0
 Fails w b [] = ⊥
-Fails w b (j ∷ js) = NoChoice (requestOf w b j) (b .free) ⊎ (Best (requestOf w b j) (b .free) (step w b j .booking) × Fails w (busyAfter w b j) js)
+Fails w b (j ∷ js) = NoChoice (requestOf w b j) (b .free) ⊎ (Best (requestOf w b j) (b .free) (step w b j .booking) × Fails w (freeTimesAfter w b j) js)
 
 -- one job: booked and best, or not booked and without a choice
-step-is : (w : Terms) (b : Busy) (j : Job) → answers (defaultCosts (w .costs)) (w .nodes) ≡ true → w .nodes ≤ length (b .free) → 1 ≤ j .size
+step-is : (w : WalkTerms) (b : FreeTimes) (j : Job) → answers (defaultCosts (w .costs)) (w .nodes) ≡ true → w .nodes ≤ length (b .free) → 1 ≤ j .size
     → ((leb 1 (step w b j .booking .count) ≡ false) × NoChoice (requestOf w b j) (b .free))
     ⊎ ((leb 1 (step w b j .booking .count) ≡ true) × Best (requestOf w b j) (b .free) (step w b j .booking))
 unfolding bookingOf
@@ -42,47 +42,47 @@ step-is w b j e h z =
     (book-is (requestOf w b j) (b .free) e h z)
 
 -- Costs and nodes for which the shares answer, and jobs of at least one unit.
-module _ (w : Terms) (e : answers (defaultCosts (w .costs)) (w .nodes) ≡ true) where
+module _ (w : WalkTerms) (e : answers (defaultCosts (w .costs)) (w .nodes) ≡ true) where
   -- all are booked and best, or some job is without a choice
-  turns-are : (b : Busy) (js : List Job) → All (λ (j : Job). 1 ≤ j .size) js → w .nodes ≤ length (b .free)
+  turns-are : (b : FreeTimes) (js : List Job) → All (λ (j : Job). 1 ≤ j .size) js → w .nodes ≤ length (b .free)
       → ((booksAll w b js ≡ true) × BestAll w b js) ⊎ ((booksAll w b js ≡ false) × Fails w b js)
   unfolding booksAll
   turns-are b [] z h = inl (refl, tt)
   turns-are b (j ∷ js) z h =
-      go (turns-are (busyAfter w b j) js (z .1) (omega (arith, afters-length b (linesOf (w .costs) (step w b j)))))
+      go (turns-are (freeTimesAfter w b j) js (z .1) (omega (arith, afters-length b (linesOf (w .costs) (step w b j)))))
       (step-is w b j e h (z .0))
     where
-      go : ((booksAll w (busyAfter w b j) js ≡ true) × BestAll w (busyAfter w b j) js) ⊎ ((booksAll w (busyAfter w b j) js ≡ false) × Fails w (busyAfter w b j) js)
+      go : ((booksAll w (freeTimesAfter w b j) js ≡ true) × BestAll w (freeTimesAfter w b j) js) ⊎ ((booksAll w (freeTimesAfter w b j) js ≡ false) × Fails w (freeTimesAfter w b j) js)
           → ((leb 1 (step w b j .booking .count) ≡ false) × NoChoice (requestOf w b j) (b .free))
           ⊎ ((leb 1 (step w b j .booking .count) ≡ true) × Best (requestOf w b j) (b .free) (step w b j .booking))
-          → (((leb 1 (step w b j .booking .count) && booksAll w (busyAfter w b j) js) ≡ true) × BestAll w b (j ∷ js))
-          ⊎ (((leb 1 (step w b j .booking .count) && booksAll w (busyAfter w b j) js) ≡ false) × Fails w b (j ∷ js))
+          → (((leb 1 (step w b j .booking .count) && booksAll w (freeTimesAfter w b j) js) ≡ true) × BestAll w b (j ∷ js))
+          ⊎ (((leb 1 (step w b j .booking .count) && booksAll w (freeTimesAfter w b j) js) ≡ false) × Fails w b (j ∷ js))
       go rest (inl x) = inr (rw (x .0), inl (x .1))
       go (inl y) (inr x) = inl (rw (x .0) (y .0), (x .1, y .1))
       go (inr y) (inr x) = inr (rw (x .0) (y .0), inr (x .1, y .1))
 
   -- each has no booking exactly when it has no choice, otherwise the best
-  turns-each : (b : Busy) (js : List Job) → All (λ (j : Job). 1 ≤ j .size) js → w .nodes ≤ length (b .free)
+  turns-each : (b : FreeTimes) (js : List Job) → All (λ (j : Job). 1 ≤ j .size) js → w .nodes ≤ length (b .free)
       → InTurn (λ v c j. IsBooking (requestOf v c j) (c .free) (step v c j .booking)) w b js
   turns-each b [] z h = tt
   turns-each b (j ∷ js) z h =
-      (book-iff (requestOf w b j) (b .free) e h (z .0), turns-each (busyAfter w b j) js (z .1) (omega (arith, afters-length b (linesOf (w .costs) (step w b j)))))
+      (book-iff (requestOf w b j) (b .free) e h (z .0), turns-each (freeTimesAfter w b j) js (z .1) (omega (arith, afters-length b (linesOf (w .costs) (step w b j)))))
 
 -- **The walk.** It books all exactly when each job has the best of all choices behind those before it; otherwise some job has no choice at all behind
 -- the best of those before it.
-pub walk-is : (w : Terms) (b : Busy) (js : List Job) → Ready w b js → w .nodes ≤ length (b .free)
+pub walk-is : (w : WalkTerms) (b : FreeTimes) (js : List Job) → Ready w b js → w .nodes ≤ length (b .free)
     → ((booksAll w b js ≡ true) × BestAll w b js) ⊎ ((booksAll w b js ≡ false) × Fails w b js)
 walk-is w b js r h = turns-are w (r .answered) b js (all-map (λ j x. x .0) js (r .jobs)) h
 
 -- Not each job has the best of all choices where one has none.
-best-or-fails : (w : Terms) (b : Busy) (js : List Job) → BestAll w b js → Fails w b js → ⊥
+best-or-fails : (w : WalkTerms) (b : FreeTimes) (js : List Job) → BestAll w b js → Fails w b js → ⊥
 best-or-fails w b [] x y = y
 best-or-fails w b (j ∷ js) x (inl n) = n _ _ _ (x .0 .best .choice)
-best-or-fails w b (j ∷ js) x (inr y) = best-or-fails w (busyAfter w b j) js (x .1) (y .1)
+best-or-fails w b (j ∷ js) x (inr y) = best-or-fails w (freeTimesAfter w b j) js (x .1) (y .1)
 
 -- **The walk, as equivalences.** It books all exactly when each job has the best of all choices behind those before it, and not all exactly when some job has no
 -- choice at all behind the best of those before it.
-pub walk-iff : (w : Terms) (b : Busy) (js : List Job) → Ready w b js → w .nodes ≤ length (b .free)
+pub walk-iff : (w : WalkTerms) (b : FreeTimes) (js : List Job) → Ready w b js → w .nodes ≤ length (b .free)
     → ((booksAll w b js ≡ true) ↔ BestAll w b js) × ((booksAll w b js ≡ false) ↔ Fails w b js)
 walk-iff w b js r h =
     ⊎-elim (λ x. ((λ e. x .1, λ y. x .0), (λ e. absurd (false≢true (sym e ∙ x .0)), λ y. absurd (best-or-fails w b js (x .1) y))))
@@ -90,12 +90,12 @@ walk-iff w b js r h =
     (walk-is w b js r h)
 
 -- **Each job of the walk**, at its place: it has no booking exactly when it has no choice; otherwise the best of all choices, and no other.
-pub walk-each : (w : Terms) (b : Busy) (js : List Job) → Ready w b js → w .nodes ≤ length (b .free)
+pub walk-each : (w : WalkTerms) (b : FreeTimes) (js : List Job) → Ready w b js → w .nodes ≤ length (b .free)
     → InTurn (λ v c j. IsBooking (requestOf v c j) (c .free) (step v c j .booking)) w b js
 walk-each w b js r h = turns-each w (r .answered) b js (all-map (λ j x. x .0) js (r .jobs)) h
 
 -- A walk that books all has the best of all choices for each job.
-pub walk-best : (w : Terms) (b : Busy) (js : List Job) → Ready w b js → w .nodes ≤ length (b .free) → booksAll w b js ≡ true → BestAll w b js
+pub walk-best : (w : WalkTerms) (b : FreeTimes) (js : List Job) → Ready w b js → w .nodes ≤ length (b .free) → booksAll w b js ≡ true → BestAll w b js
 walk-best w b js r h = walk-iff w b js r h .0 .0
 
 -- What is walked is the jobs of the queue, each once, by deadline, equal deadlines by number.

@@ -19,7 +19,7 @@ use Rattle.shares.specs.Model.{sendEnd}
 use Rattle.shares.specs.Lists.{Positive}
 use Rattle.booking.specs.Best.{freeAt, chosen, units}
 use Rattle.walk.specs.declared.Job.{Job}
-use Rattle.walk.specs.declared.Busy.{Busy}
+use Rattle.walk.specs.declared.FreeTimes.{FreeTimes}
 use Rattle.walk.specs.declared.Chunk.{Chunk}
 use Rattle.walk.specs.declared.ChunkTerms.{ChunkTerms}
 use Rattle.walk.specs.Model.{costsFor, Span, chunkTerms, chunkOn, chunksFrom, linesOf, latest, finishOf, placed, spansOf, Between, Apart, after, afters, fitAll}
@@ -27,16 +27,16 @@ use Rattle.walk.specs.Model.{costsFor, Span, chunkTerms, chunkOn, chunks
 -- ---- Spans in a row
 
 -- a span behind what the free times b leave: its send not before the link's, its start not before its node's
-abbrev pub Fits : Busy → Span → Type 0
+abbrev pub Fits : FreeTimes → Span → Type 0
 Fits b x = (b .link ≤ x .chunk .start) × (freeAt (b .free) (x .chunk .node) ≤ x .from)
 
 -- each span behind what those before it have left
-abbrev pub Chain : Busy → List Span → Type 0
+abbrev pub Chain : FreeTimes → List Span → Type 0
 Chain b [] = Unit
 Chain b (x ∷ xs) = Fits b x × Chain (after b (x .chunk)) xs
 
 -- The test of the spans one after the other tells that they are a chain.
-pub fit-all-chain : (b : Busy) (xs : List Span) → (fitAll b xs ≡ true) ↔ Chain b xs
+pub fit-all-chain : (b : FreeTimes) (xs : List Span) → (fitAll b xs ≡ true) ↔ Chain b xs
 unfolding fitAll
 fit-all-chain b [] = (λ e. tt, λ h. refl)
 fit-all-chain b (x ∷ xs) =
@@ -48,7 +48,7 @@ fit-all-chain b (x ∷ xs) =
     )
 
 -- A chain of two parts is a chain of the first, and of the second behind it.
-pub chain-append : (b : Busy) (xs ys : List Span) → Chain b (xs ++ ys) ↔ (Chain b xs × Chain (afters b (map (λ (x : Span). x .chunk) xs)) ys)
+pub chain-append : (b : FreeTimes) (xs ys : List Span) → Chain b (xs ++ ys) ↔ (Chain b xs × Chain (afters b (map (λ (x : Span). x .chunk) xs)) ys)
 unfolding afters
 chain-append b [] ys = (λ h. (tt, h), λ h. h .1)
 chain-append b (x ∷ xs) ys =
@@ -76,17 +76,17 @@ pub free-other : (free : List ℕ) (k m v : ℕ) → 1 ≤ k → 1 ≤ m → (k 
 free-other free k m v h l d = getD-set-other free (k - 1) (m - 1) v 0 (λ e. d (omega arith))
 
 -- The free times keep their number.
-pub after-length : (b : Busy) (x : Chunk) → length (after b x .free) ≡ length (b .free)
+pub after-length : (b : FreeTimes) (x : Chunk) → length (after b x .free) ≡ length (b .free)
 after-length b x = length-set (b .free) (x .node - 1) (x .finish)
 
 -- So they do behind several chunks.
-pub afters-length : (b : Busy) (xs : List Chunk) → length (afters b xs .free) ≡ length (b .free)
+pub afters-length : (b : FreeTimes) (xs : List Chunk) → length (afters b xs .free) ≡ length (b .free)
 unfolding afters
 afters-length b [] = refl
 afters-length b (x ∷ xs) = afters-length (after b x) xs ∙ after-length b x
 
 -- What fits behind a span that fits, fits without it, and comes after it.
-fits-before : (b : Busy) (x y : Span) → length (b .free) ≡ 64 → Proper 64 x → Proper 64 y → Fits b x → Fits (after b (x .chunk)) y → Fits b y × Follows x y
+fits-before : (b : FreeTimes) (x y : Span) → length (b .free) ≡ 64 → Proper 64 x → Proper 64 y → Fits b x → Fits (after b (x .chunk)) y → Fits b y × Follows x y
 fits-before b x y l p q h k = go (ℕ-discrete (x .chunk .node) (y .chunk .node))
   where
     go : Dec (x .chunk .node ≡ y .chunk .node) → Fits b y × Follows x y
@@ -103,7 +103,7 @@ fits-before b x y l p q h k = go (ℕ-discrete (x .chunk .node) (y .chunk .node)
         ((omega arith, omega arith), record { send = k .0; node = λ e. absurd (d e) })
 
 -- What fits and comes after a span, fits behind it.
-fits-after : (b : Busy) (x y : Span) → length (b .free) ≡ 64 → Proper 64 x → Proper 64 y → Follows x y → Fits b y → Fits (after b (x .chunk)) y
+fits-after : (b : FreeTimes) (x y : Span) → length (b .free) ≡ 64 → Proper 64 x → Proper 64 y → Follows x y → Fits b y → Fits (after b (x .chunk)) y
 fits-after b x y l p q f h = go (ℕ-discrete (x .chunk .node) (y .chunk .node))
   where
     go : Dec (x .chunk .node ≡ y .chunk .node) → Fits (after b (x .chunk)) y
@@ -119,7 +119,7 @@ fits-after b x y l p q f h = go (ℕ-discrete (x .chunk .node) (y .chunk .node))
         (f .send, omega arith)
 
 -- Spans are a chain exactly if each fits by itself and each comes after every earlier one.
-pub chain-follows : (b : Busy) (xs : List Span) → length (b .free) ≡ 64 → All (Proper 64) xs → Chain b xs ↔ (All (Fits b) xs × Pairs Follows xs)
+pub chain-follows : (b : FreeTimes) (xs : List Span) → length (b .free) ≡ 64 → All (Proper 64) xs → Chain b xs ↔ (All (Fits b) xs × Pairs Follows xs)
 chain-follows b [] l p = (λ h. (tt, tt), λ h. tt)
 chain-follows b (x ∷ xs) l p =
     let rest = chain-follows (after b (x .chunk)) xs (after-length b (x .chunk) ∙ l) (p .1) in (
@@ -135,7 +135,7 @@ pub follows-apart : (x y : Span) → Follows x y → Apart x y
 follows-apart x y f = record { node = λ e t h k. let z = f .node e in omega arith; send = λ t h k. omega (arith, f .send) }
 
 -- The spans of a chain share no tick of a node or of the link.
-pub chain-apart : (b : Busy) (xs : List Span) → length (b .free) ≡ 64 → All (Proper 64) xs → Chain b xs → Pairs Apart xs
+pub chain-apart : (b : FreeTimes) (xs : List Span) → length (b .free) ≡ 64 → All (Proper 64) xs → Chain b xs → Pairs Apart xs
 chain-apart b xs l p h = pairs-map follows-apart xs (chain-follows b xs l p .0 h .1)
 
 -- ---- The spans of a job
@@ -191,6 +191,6 @@ pub spans-lines : (c : FarmCosts) (j : Job) → map (λ (x : Span). x .chunk) (s
 spans-lines c j = placed-chunks (j .booking .start) (linesOf c j)
 
 -- A chain that begins with a job is a chain of the job's spans, and of the others behind its lines.
-pub chain-job : (b : Busy) (c : FarmCosts) (j : Job) (ys : List Span) → Chain b (spansOf c j ++ ys) ↔ (Chain b (spansOf c j) × Chain (afters b (linesOf c j)) ys)
+pub chain-job : (b : FreeTimes) (c : FarmCosts) (j : Job) (ys : List Span) → Chain b (spansOf c j ++ ys) ↔ (Chain b (spansOf c j) × Chain (afters b (linesOf c j)) ys)
 chain-job b c j ys =
     subst (λ (l : List Chunk). Chain b (spansOf c j ++ ys) ↔ (Chain b (spansOf c j) × Chain (afters b l) ys)) (spans-lines c j) (chain-append b (spansOf c j) ys)

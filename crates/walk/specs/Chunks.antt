@@ -76,7 +76,7 @@ finish-shares c j e = latest-shares (chunkTerms c j) (j .booking .start) (chosen
 -- ---- A job's chunks
 
 -- a job whose chunks can be worked out: a share for each node, nodes that there are, costs within their limits, and a finish within the time range
-pub record Sends (c : FarmCosts) (j : Job) : Type 0 where
+pub record Sendable (c : FarmCosts) (j : Job) : Type 0 where
   pub few : j .booking .count ≤ 64
   pub nodes : length (chosen (j .booking)) ≡ j .booking .count
   pub shares : length (units (j .booking)) ≡ j .booking .count
@@ -137,7 +137,7 @@ module _ (w : ChunkTerms) (b : Booking) (n : length (chosen b) ≡ b .count) (u 
     ends-next e = let m = latest-next in (omega arith, omega arith)
 
 -- A job whose chunks can be worked out, and what its chunks have in common.
-module _ (c : FarmCosts) (j : Job) (s : Sends c j) where
+module _ (c : FarmCosts) (j : Job) (s : Sendable c j) where
   -- The next chunk's node is one of 64.
   pub node-known : (i : ℕ) → i < j .booking .count
       → (1 ≤ getD (j .booking .nodes) i 0) × (getD (j .booking .nodes) i 0 ≤ 64)

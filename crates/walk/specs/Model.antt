@@ -17,8 +17,8 @@ use Rattle.booking.specs.declared.Booking.{Booking}
 use Rattle.booking.specs.Model.{bookingOf, bookOf}
 use Rattle.booking.specs.Best.{freeAt, chosen, units}
 use Rattle.walk.specs.declared.Job.{Job}
-use Rattle.walk.specs.declared.Terms.{Terms}
-use Rattle.walk.specs.declared.Busy.{Busy}
+use Rattle.walk.specs.declared.WalkTerms.{WalkTerms}
+use Rattle.walk.specs.declared.FreeTimes.{FreeTimes}
 use Rattle.walk.specs.declared.Chunk.{Chunk}
 use Rattle.walk.specs.declared.ChunkTerms.{ChunkTerms}
 use Rattle.walk.specs.declared.Time.{Time}
@@ -151,16 +151,16 @@ pub record Apart (x y : Span) : Type 0 where
 -- ---- Free times
 
 -- a chunk moves the link's free time to its send's end and its node's to its finish
-abbrev pub after : Busy → Chunk → Busy
+abbrev pub after : FreeTimes → Chunk → FreeTimes
 after b x = record { link = x .sent; free = set (b .free) (x .node - 1) (x .finish) }
 
-unfoldable pub afters : Busy → List Chunk → Busy
+unfoldable pub afters : FreeTimes → List Chunk → FreeTimes
 afters b [] = b
 afters b (x ∷ xs) = afters (after b x) xs
 
 -- the spans one after the other, each behind what those before it have left: its send not before the link's free time, nor its span before
 -- its node's
-unfoldable pub fitAll : Busy → List Span → Bool
+unfoldable pub fitAll : FreeTimes → List Span → Bool
 fitAll b [] = true
 fitAll b (x ∷ xs) = leb (b .link) (x .chunk .start) && leb (freeAt (b .free) (x .chunk .node)) (x .from) && fitAll (after b (x .chunk)) xs
 
@@ -201,7 +201,7 @@ abbrev pub byStart : List Job → List Job
 byStart = byTime startOf
 
 -- what is asked for a job: its own costs, and no start before the clock or the link's free time
-abbrev pub requestOf : Terms → Busy → Job → Request
+abbrev pub requestOf : WalkTerms → FreeTimes → Job → Request
 requestOf w b j = record { costs = ownCosts (w .costs) j; nodes = w .nodes; from = max (w .clock) (b .link); size = j .size; deadline = j .deadline }
 
 -- a job with a booking
@@ -209,24 +209,24 @@ abbrev pub booked : Job → Booking → Job
 booked j b = record { number = j .number; show = j .show; size = j .size; compute = j .compute; deadline = j .deadline; booking = b }
 
 -- the next job of the walk, booked
-abbrev pub step : Terms → Busy → Job → Job
+abbrev pub step : WalkTerms → FreeTimes → Job → Job
 step w b j = booked j (bookOf (requestOf w b j) (b .free))
 
 -- the free times once it is booked
-abbrev pub busyAfter : Terms → Busy → Job → Busy
-busyAfter w b j = afters b (linesOf (w .costs) (step w b j))
+abbrev pub freeTimesAfter : WalkTerms → FreeTimes → Job → FreeTimes
+freeTimesAfter w b j = afters b (linesOf (w .costs) (step w b j))
 
 -- each job in turn, behind those before it
-unfoldable pub plan : Terms → Busy → List Job → List Job
+unfoldable pub plan : WalkTerms → FreeTimes → List Job → List Job
 plan w b [] = []
-plan w b (j ∷ js) = step w b j ∷ plan w (busyAfter w b j) js
+plan w b (j ∷ js) = step w b j ∷ plan w (freeTimesAfter w b j) js
 
 -- whether each is booked
-unfoldable pub booksAll : Terms → Busy → List Job → Bool
+unfoldable pub booksAll : WalkTerms → FreeTimes → List Job → Bool
 booksAll w b [] = true
-booksAll w b (j ∷ js) = leb 1 (step w b j .booking .count) && booksAll w (busyAfter w b j) js
+booksAll w b (j ∷ js) = leb 1 (step w b j .booking .count) && booksAll w (freeTimesAfter w b j) js
 
 -- P of each job of the walk, b the free times that those before it have left
-abbrev pub InTurn : (Terms → Busy → Job → Type 0) → Terms → Busy → List Job → Type 0
+abbrev pub InTurn : (WalkTerms → FreeTimes → Job → Type 0) → WalkTerms → FreeTimes → List Job → Type 0
 InTurn P w b [] = Unit
-InTurn P w b (j ∷ js) = P w b j × InTurn P w (busyAfter w b j) js
+InTurn P w b (j ∷ js) = P w b j × InTurn P w (freeTimesAfter w b j) js

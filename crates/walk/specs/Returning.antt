@@ -9,9 +9,9 @@ use Rattle.limits.specs.declared.FarmCosts.{FarmCosts}
 use Rattle.shares.specs.Model.{sendEnd, chunkFinish}
 use Rattle.booking.specs.Best.{chosen, units}
 use Rattle.walk.specs.declared.Job.{Job}
-use Rattle.walk.specs.declared.Terms.{Terms}
-use Rattle.walk.specs.declared.Busy.{Busy}
-use Rattle.walk.specs.Model.{costsFor, computeEnd, chunkTerms, chunkOn, chunksFrom, after, afters, step, busyAfter, plan, booksAll}
+use Rattle.walk.specs.declared.WalkTerms.{WalkTerms}
+use Rattle.walk.specs.declared.FreeTimes.{FreeTimes}
+use Rattle.walk.specs.Model.{costsFor, computeEnd, chunkTerms, chunkOn, chunksFrom, after, afters, step, freeTimesAfter, plan, booksAll}
 
 -- ---- A chunk
 
@@ -47,7 +47,7 @@ abbrev pub dearer : ℕ → Job → Job
 dearer r j = record { number = j .number; show = j .show; size = j .size; compute = j .compute + r; deadline = j .deadline; booking = j .booking }
 
 -- what a walk knows, without the way back
-abbrev pub termsWithout : Terms → Terms
+abbrev pub termsWithout : WalkTerms → WalkTerms
 termsWithout w = record { costs = withoutReturn (w .costs); nodes = w .nodes; clock = w .clock }
 
 -- For the share arithmetic p + r is a larger p.
@@ -55,7 +55,7 @@ pub as-dearer : (c : FarmCosts) (p : ℕ) → costsFor (withoutReturn c) (p + c 
 as-dearer c p = let q : p + c .returning + 0 ≡ p + c .returning = omega arith in rw q
 
 -- The free times that chunks leave go by their sends and finishes, and so by p + r alone.
-afters-dearer : (c : FarmCosts) (j : Job) (t : ℕ) (b : Busy) (ks xs : List ℕ)
+afters-dearer : (c : FarmCosts) (j : Job) (t : ℕ) (b : FreeTimes) (ks xs : List ℕ)
     → afters b (chunksFrom (chunkTerms (withoutReturn c) (dearer (c .returning) j)) t ks xs)
     ≡ afters b (chunksFrom (chunkTerms c j) t ks xs)
 unfolding chunksFrom afters
@@ -67,20 +67,20 @@ afters-dearer c j t b (k ∷ ks) (a ∷ xs) =
     let q : j .compute + c .returning + 0 ≡ j .compute + c .returning = omega arith in
     rw q (afters-dearer c j (x .sent) (after b x) ks xs)
 
-busy-dearer : (w : Terms) (b : Busy) (j : Job) → busyAfter (termsWithout w) b (dearer (w .costs .returning) j) ≡ busyAfter w b j
-busy-dearer w b j =
+times-dearer : (w : WalkTerms) (b : FreeTimes) (j : Job) → freeTimesAfter (termsWithout w) b (dearer (w .costs .returning) j) ≡ freeTimesAfter w b j
+times-dearer w b j =
     let k = step w b j .booking in
     rw (as-dearer (w .costs) (j .compute)) (afters-dearer (w .costs) j (k .start) b (chosen k) (units k))
 
 -- **A larger p.** A walk plans its jobs as the walk without a way back plans them where each unit takes r ticks longer to compute: the same starts, nodes and
 -- shares, and so the same free times.
-pub plan-dearer : (w : Terms) (b : Busy) (js : List Job) → plan (termsWithout w) b (map (dearer (w .costs .returning)) js) ≡ map (dearer (w .costs .returning)) (plan w b js)
+pub plan-dearer : (w : WalkTerms) (b : FreeTimes) (js : List Job) → plan (termsWithout w) b (map (dearer (w .costs .returning)) js) ≡ map (dearer (w .costs .returning)) (plan w b js)
 unfolding plan
 plan-dearer w b [] = refl
-plan-dearer w b (j ∷ js) = rw (busy-dearer w b j, as-dearer (w .costs) (j .compute), plan-dearer w (busyAfter w b j) js)
+plan-dearer w b (j ∷ js) = rw (times-dearer w b j, as-dearer (w .costs) (j .compute), plan-dearer w (freeTimesAfter w b j) js)
 
 -- So it books them all exactly where that walk does.
-pub books-dearer : (w : Terms) (b : Busy) (js : List Job) → booksAll (termsWithout w) b (map (dearer (w .costs .returning)) js) ≡ booksAll w b js
+pub books-dearer : (w : WalkTerms) (b : FreeTimes) (js : List Job) → booksAll (termsWithout w) b (map (dearer (w .costs .returning)) js) ≡ booksAll w b js
 unfolding booksAll
 books-dearer w b [] = refl
-books-dearer w b (j ∷ js) = rw (busy-dearer w b j, as-dearer (w .costs) (j .compute), books-dearer w (busyAfter w b j) js)
+books-dearer w b (j ∷ js) = rw (times-dearer w b j, as-dearer (w .costs) (j .compute), books-dearer w (freeTimesAfter w b j) js)

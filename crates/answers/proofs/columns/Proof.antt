@@ -12,19 +12,19 @@ mul-ticks c = search needs
 array-read-ticks : tie.Need-array-read-ticks
 array-read-ticks c = search needs
 
-mul-less : tie.Need-mul-less
-mul-less c = search needs
+mul-difference : tie.Need-mul-difference
+mul-difference c = search needs
 
-array-read-less : tie.Need-array-read-less
-array-read-less c = search needs
+array-read-difference : tie.Need-array-read-difference
+array-read-difference c = search needs
 
-less-requires : tie.Need-less-requires
-less-requires c κs = search needs
+difference-requires : tie.Need-difference-requires
+difference-requires c κs = search needs
 
 returns : tie.Need-returns
-returns c = rw (c .less .ensures)
+returns c = rw (c .difference .ensures)
 
 pub columns-spec : {M : Type 1} → statement M
 columns-spec =
     tie.close
-    (tie.spec sub-place mul-ticks array-read-ticks mul-less array-read-less less-requires returns)
+    (tie.spec sub-place mul-ticks array-read-ticks mul-difference array-read-difference difference-requires returns)

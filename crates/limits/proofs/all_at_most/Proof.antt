@@ -16,13 +16,13 @@ Inv-loop xs count limit n i₀ i = (i ≤ n) × (n ≤ length xs) × (allAtMost 
 abbrev μ-loop : tie.MeasureT-loop
 μ-loop xs count limit n i₀ i = n - i
 
-least-requires : tie.Need-least-requires Inv-loop μ-loop
-least-requires c κs = search needs
+smaller-size-requires : tie.Need-smaller-size-requires Inv-loop μ-loop
+smaller-size-requires c κs = search needs
 
 loop-holds : tie.Need-loop-holds Inv-loop μ-loop
 loop-holds c =
     let a = c .before .before .args in
-    (omega arith, omega arith, ap (λ (n : ℕ). allAtMost (a .limit) (take n (a .xs .now))) (c .least .ensures) ∙ ap (allAtMost (a .limit)) (take-least (a .count) (a .xs .now)))
+    (omega arith, omega arith, ap (λ (n : ℕ). allAtMost (a .limit) (take n (a .xs .now))) (c .smaller-size .ensures) ∙ ap (allAtMost (a .limit)) (take-least (a .count) (a .xs .now)))
 
 mul-if1 : tie.Need-mul-if1 Inv-loop μ-loop
 mul-if1 c = search needs
@@ -34,7 +34,7 @@ returns : tie.Need-returns Inv-loop μ-loop
 returns c =
     let a = c .before .before .before .before .before .before .args in
     let l = c .before .before .before .loop in
-    sym (sym (l .inv .2) ∙ at-most-stop (a .limit) (a .xs .now) (l .i) (c .before .before .before .before .least .result) (c .before .before .loop-test .taken) (l .inv .1) (c .if1 .taken))
+    sym (sym (l .inv .2) ∙ at-most-stop (a .limit) (a .xs .now) (l .i) (c .before .before .before .before .smaller-size .result) (c .before .before .loop-test .taken) (l .inv .1) (c .if1 .taken))
 
 add-i : tie.Need-add-i Inv-loop μ-loop
 add-i c = search needs
@@ -46,14 +46,14 @@ loop-again : tie.Need-loop-again Inv-loop μ-loop
 loop-again c =
     let a = c .before .before .before .before .before .before .args in
     let l = c .before .before .before .loop in
-    (omega arith, l .inv .1, sym (at-most-more (a .limit) (a .xs .now) (l .i) (c .before .before .before .before .least .result) (c .before .before .loop-test .taken) (l .inv .1) (c .if1 .left)) ∙ l .inv .2)
+    (omega arith, l .inv .1, sym (at-most-more (a .limit) (a .xs .now) (l .i) (c .before .before .before .before .smaller-size .result) (c .before .before .loop-test .taken) (l .inv .1) (c .if1 .left)) ∙ l .inv .2)
 
 returns-2 : tie.Need-returns-2 Inv-loop μ-loop
 returns-2 c =
     let a = c .before .before .before .before .args in
     let l = c .before .loop in
-    let all : l .i ≡ c .before .before .least .result = omega arith in
-    sym (at-most-none (a .limit) (a .xs .now) (c .before .before .least .result)) ∙ ap (λ (k : ℕ). allAtMost (a .limit) (slice k (c .before .before .least .result) (a .xs .now))) (sym all) ∙ l .inv .2
+    let all : l .i ≡ c .before .before .smaller-size .result = omega arith in
+    sym (at-most-none (a .limit) (a .xs .now) (c .before .before .smaller-size .result)) ∙ ap (λ (k : ℕ). allAtMost (a .limit) (slice k (c .before .before .smaller-size .result) (a .xs .now))) (sym all) ∙ l .inv .2
 
 pub all-at-most-spec : {M : Type 1} → statement M
 all-at-most-spec =
@@ -61,7 +61,7 @@ all-at-most-spec =
     (tie.spec
     Inv-loop
     μ-loop
-    least-requires
+    smaller-size-requires
     loop-holds
     mul-if1
     shared-slice-read-if1

@@ -6,14 +6,14 @@ use Prim.Native.Nat.{ℕ}
 use borrow.Author.Needs.{needs}
 use Rattle.reading.specs.declared.Kind.{Kind}
 use Rattle.reading.specs.declared.Kind.the-variants as kind
-use Rattle.reading.specs.Model.{same, wordOf, kindOf, kindAmong}
+use Rattle.reading.specs.Model.{same, kindWord, kindOf, kindAmong}
 use Rattle.reading.proofs.kind_of.Statement.{statement}
 use Rattle.reading.proofs.kind_of.Tie as tie
 
 -- One kind more is asked before the others.
-or-else : (w : List ℕ) (k : Kind) (ks : List Kind) {x r : Kind} → r ≡ cond (same w (wordOf k)) k x → x ≡ kindAmong ks w → r ≡ kindAmong (k ∷ ks) w
+or-else : (w : List ℕ) (k : Kind) (ks : List Kind) {x r : Kind} → r ≡ cond (same w (kindWord k)) k x → x ≡ kindAmong ks w → r ≡ kindAmong (k ∷ ks) w
 unfolding kindAmong
-or-else w k ks e h = e ∙ ap (λ (z : Kind). cond (same w (wordOf k)) k z) h
+or-else w k ks e h = e ∙ ap (λ (z : Kind). cond (same w (kindWord k)) k z) h
 
 slice-aggregate-kind-if : tie.Need-slice-aggregate-kind-if
 slice-aggregate-kind-if c = search needs

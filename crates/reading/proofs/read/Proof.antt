@@ -60,8 +60,8 @@ returns-3 c =
     let cut = field-whole (a .line .now) 0 (f .result) (f .ensures .0) (not-false _ (c .before .before .before .before .before .before .before .before .if1 .left)) in
     c .unreadable3 .ensures ∙ sym (row-unfit (a .line .now) (f .result .end) (k .result) (x .result) cut (k .ensures) (x .ensures) (not-false _ (c .before .before .before .if2 .left)) (sym (c .before .before .fitting .ensures) ∙ not-true _ (c .before .if3 .taken)))
 
-least-requires : tie.Need-least-requires
-least-requires c κs = search needs
+smaller-size-requires : tie.Need-smaller-size-requires
+smaller-size-requires c κs = search needs
 
 returns-4 : tie.Need-returns-4
 returns-4 c =
@@ -70,7 +70,7 @@ returns-4 c =
     let k = c .before .before .before .before .before .before .before .kind-of in
     let f = c .before .before .before .before .before .before .before .before .before .before .before .field-from in
     let cut = field-whole (a .line .now) 0 (f .result) (f .ensures .0) (not-false _ (c .before .before .before .before .before .before .before .before .before .if1 .left)) in
-    rw (c .least .ensures) (sym (row-read (a .line .now) (f .result .end) (k .result) (x .result) cut (k .ensures) (x .ensures) (not-false _ (c .before .before .before .before .if2 .left)) (sym (c .before .before .before .fitting .ensures) ∙ not-false _ (c .before .before .if3 .left))))
+    rw (c .smaller-size .ensures) (sym (row-read (a .line .now) (f .result .end) (k .result) (x .result) cut (k .ensures) (x .ensures) (not-false _ (c .before .before .before .before .if2 .left)) (sym (c .before .before .before .fitting .ensures) ∙ not-false _ (c .before .before .if3 .left))))
 
 pub read-spec : {M : Type 1} → statement M
 read-spec =
@@ -89,5 +89,5 @@ read-spec =
     fitting-requires
     unreadable-requires-3
     returns-3
-    least-requires
+    smaller-size-requires
     returns-4)

@@ -32,18 +32,18 @@ eight-requires c κs = search needs
 marks-requires : tie.Need-marks-requires Inv-loop μ-loop
 marks-requires c κs = search needs
 
-place-of-requires : tie.Need-place-of-requires Inv-loop μ-loop
-place-of-requires c κs = search needs
+mark-place-requires : tie.Need-mark-place-requires Inv-loop μ-loop
+mark-place-requires c κs = search needs
 
 add-result : tie.Need-add-result Inv-loop μ-loop
-add-result c = omega (arith, trailing-le 64 (c .before .before .marks .result), c .place-of .ensures)
+add-result c = omega (arith, trailing-le 64 (c .before .before .marks .result), c .mark-place .ensures)
 
 returns-2 : tie.Need-returns-2 Inv-loop μ-loop
 returns-2 c =
     let a = c .before .before .before .before .before .before .before .before .args in
     let e = c .before .before .before .eight in
     let m = c .before .before .marks in
-    omega (arith, word-found (either (a .a) (a .b)) (a .text .now) (c .before .before .before .before .before .loop .i) (e .result) (m .result) (e .ensures) (m .ensures) (c .before .if2 .taken), c .place-of .ensures)
+    omega (arith, word-found (either (a .a) (a .b)) (a .text .now) (c .before .before .before .before .before .loop .i) (e .result) (m .result) (e .ensures) (m .ensures) (c .before .if2 .taken), c .mark-place .ensures)
 
 add-i : tie.Need-add-i Inv-loop μ-loop
 add-i c = search needs
@@ -75,7 +75,7 @@ next-of-spec =
     sub-loop
     eight-requires
     marks-requires
-    place-of-requires
+    mark-place-requires
     add-result
     returns-2
     add-i

@@ -8,11 +8,11 @@ use Rattle.shares.specs.Capacity.{first-none, first-free}
 use Rattle.shares.proofs.first_share.Statement.{statement}
 use Rattle.shares.proofs.first_share.Tie as tie
 
-less-requires : tie.Need-less-requires
-less-requires c κs = search needs
+difference-requires : tie.Need-difference-requires
+difference-requires c κs = search needs
 
-less-requires-2 : tie.Need-less-requires-2
-less-requires-2 c κs = search needs
+difference-requires-2 : tie.Need-difference-requires-2
+difference-requires-2 c κs = search needs
 
 returns : tie.Need-returns
 returns c = sym (first-none (c .before .before .before .before .args .costs) (c .before .before .before .before .args .window) (omega arith))
@@ -31,14 +31,14 @@ div-result c = search needs
 
 returns-4 : tie.Need-returns-4
 unfolding first
-returns-4 c = rw (c .before .before .before .before .before .before .before .less2 .ensures, c .before .before .before .before .before .before .before .before .less .ensures, sub-add-eq)
+returns-4 c = rw (c .before .before .before .before .before .before .before .difference2 .ensures, c .before .before .before .before .before .before .before .before .difference .ensures, sub-add-eq)
 
 pub first-share-spec : {M : Type 1} → statement M
 first-share-spec =
     tie.close
     (tie.spec
-    less-requires
-    less-requires-2
+    difference-requires
+    difference-requires-2
     returns
     returns-2
     add-each

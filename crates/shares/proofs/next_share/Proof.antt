@@ -10,24 +10,24 @@ use Rattle.shares.proofs.next_share.Tie as tie
 first-share-requires : tie.Need-first-share-requires
 first-share-requires c κs = search needs
 
-mul-less : tie.Need-mul-less
-mul-less c =
+mul-difference : tie.Need-mul-difference
+mul-difference c =
     let a = c .before .before .args in
     let used : c .before .first-share .result * a .costs .send ≤ a .window - (a .costs .linksetup + a .costs .nodesetup) = rw (c .before .first-share .ensures) (first-used (a .costs) (a .window)) in
     omega arith
 
-add-less : tie.Need-add-less
-add-less c =
+add-difference : tie.Need-add-difference
+add-difference c =
     let a = c .before .before .before .args in
     let used : c .before .before .first-share .result * a .costs .send ≤ a .window - (a .costs .linksetup + a .costs .nodesetup) = rw (c .before .before .first-share .ensures) (first-used (a .costs) (a .window)) in
     omega arith
 
-less-requires : tie.Need-less-requires
-less-requires c κs = search needs
+difference-requires : tie.Need-difference-requires
+difference-requires c κs = search needs
 
 returns : tie.Need-returns
 unfolding nextOf left
-returns c = rw (c .less .ensures, c .before .before .before .first-share .ensures)
+returns c = rw (c .difference .ensures, c .before .before .before .first-share .ensures)
 
 pub next-share-spec : {M : Type 1} → statement M
-next-share-spec = tie.close (tie.spec first-share-requires mul-less add-less less-requires returns)
+next-share-spec = tie.close (tie.spec first-share-requires mul-difference add-difference difference-requires returns)

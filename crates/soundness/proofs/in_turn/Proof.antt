@@ -31,7 +31,7 @@ returns c =
     let keys = c .before .before .keys-by in
     let fits : length (a .jobs) ≡ 128 = omega arith in
     let whole = ordered-whole startOf (a .jobs) (keys .result) (c .before .sorted .result) (a .count) (z .pre .0) fits (keys .ensures .0) (keys .ensures .1) (c .before .sorted .ensures) in
-    c .jobs-fit .ensures ∙ ap (λ (js : List Job). fitAll (a .busy) (spansOfAll (a .costs) js)) whole
+    c .jobs-fit .ensures ∙ ap (λ (js : List Job). fitAll (a .times) (spansOfAll (a .costs) js)) whole
 
 pub in-turn-spec : {M : Type 1} → statement M
 in-turn-spec = tie.close (tie.spec keys-by-requires sorted-requires jobs-fit-requires returns)

@@ -4,7 +4,7 @@ use mathlib.Core.Path.{_≡_}
 use Prim.Native.Nat.{_-_, _≤_}
 use native.Mathlib.Omega.{arith}
 use lib.ListN.{length, length-set}
-use Rattle.walk.specs.declared.Busy.{Busy}
+use Rattle.walk.specs.declared.FreeTimes.{FreeTimes}
 use Rattle.walk.specs.Model.{greatest}
 use Rattle.walk.specs.Chunks.{latestFrom, node-known, ends-next, ends-all, chunk-fits}
 use Rattle.walk.proofs.Sizes.{nodes-length, shares-length, free-length}
@@ -14,11 +14,11 @@ use Rattle.soundness.proofs.job_fits.Statement.{statement}
 use Rattle.soundness.proofs.job_fits.Tie as tie
 
 abbrev Inv-loop : tie.InvT-loop
-Inv-loop busy b terms link₀ free₀ last₀ i₀ link free last i =
-    (i ≤ b .count) × (length free ≡ 64) × (latestFrom terms b i last ≤ greatest) × Fitting terms busy b (record { link = link; free = free }) last i
+Inv-loop times b terms link₀ free₀ last₀ i₀ link free last i =
+    (i ≤ b .count) × (length free ≡ 64) × (latestFrom terms b i last ≤ greatest) × Fitting terms times b (record { link = link; free = free }) last i
 
 abbrev μ-loop : tie.MeasureT-loop
-μ-loop busy b terms link₀ free₀ last₀ i₀ link free last i = b .count - i
+μ-loop times b terms link₀ free₀ last₀ i₀ link free last i = b .count - i
 
 chunk-terms-requires : tie.Need-chunk-terms-requires Inv-loop μ-loop
 chunk-terms-requires c κs = search needs
@@ -29,7 +29,7 @@ loop-holds c =
     let z = c .before .before .before in
     let a = z .args in
     let s = bounded-sends (a .costs) (a .job) (z .pre) (nodes-length (a .job) (z .good .1 .1 .0)) (shares-length (a .job) (z .good .1 .1 .0)) in
-    (omega arith, free-length (a .busy) (z .good .1 .0), ends-all (a .costs) (a .job) s (w .result) (w .ensures), fitting-start (w .result) (a .busy) (a .job .booking))
+    (omega arith, free-length (a .times) (z .good .1 .0), ends-all (a .costs) (a .job) s (w .result) (w .ensures), fitting-start (w .result) (a .times) (a .job .booking))
 
 element-copy-out-chunk-on : tie.Need-element-copy-out-chunk-on Inv-loop μ-loop
 element-copy-out-chunk-on c = omega (arith, c .before .before .before .before .before .pre .count)
@@ -69,8 +69,8 @@ returns c =
     let s = bounded-sends (a .costs) (a .job) (z .pre) (nodes-length (a .job) (z .good .1 .1 .0)) (shares-length (a .job) (z .good .1 .1 .0)) in
     let w = t .before .before .before .chunk-terms in
     let x = c .before .before .chunk-on in
-    let now : Busy = record { link = l .link; free = l .free } in
-    fitting-link (a .costs) (a .busy) (a .job) s (w .result) (w .ensures) now (l .last) (l .i) (l .inv .3) (t .loop-test .taken) (x .result) (x .ensures) (c .if1 .taken)
+    let now : FreeTimes = record { link = l .link; free = l .free } in
+    fitting-link (a .costs) (a .times) (a .job) s (w .result) (w .ensures) now (l .last) (l .i) (l .inv .3) (t .loop-test .taken) (x .result) (x .ensures) (c .if1 .taken)
 
 mul-if2 : tie.Need-mul-if2 Inv-loop μ-loop
 mul-if2 c =
@@ -101,8 +101,8 @@ returns-2 c =
     let s = bounded-sends (a .costs) (a .job) (z .pre) (nodes-length (a .job) (z .good .1 .1 .0)) (shares-length (a .job) (z .good .1 .1 .0)) in
     let w = t .before .before .before .chunk-terms in
     let x = c .before .before .before .chunk-on in
-    let now : Busy = record { link = l .link; free = l .free } in
-    fitting-node (a .costs) (a .busy) (a .job) s (w .result) (w .ensures) now (l .last) (l .i) (l .inv .3) (t .loop-test .taken) (x .result) (x .ensures) (c .if2 .taken)
+    let now : FreeTimes = record { link = l .link; free = l .free } in
+    fitting-node (a .costs) (a .times) (a .job) s (w .result) (w .ensures) now (l .last) (l .i) (l .inv .3) (t .loop-test .taken) (x .result) (x .ensures) (c .if2 .taken)
 
 mul-free : tie.Need-mul-free Inv-loop μ-loop
 mul-free c =
@@ -140,11 +140,11 @@ loop-again c =
     let w = t .before .before .before .chunk-terms in
     let x = c .before .before .before .chunk-on in
     let more = t .loop-test .taken in
-    let now : Busy = record { link = l .link; free = l .free } in (
+    let now : FreeTimes = record { link = l .link; free = l .free } in (
       omega arith,
       simp length-set (l .inv .1),
       rw (x .ensures) (ends-next (w .result) (a .job .booking) (s .nodes) (s .shares) (l .i) (l .last) more (l .inv .2) .1),
-      fitting-more (a .costs) (a .busy) (a .job) s (w .result) (w .ensures) now (l .last) (l .i) (l .inv .3) more (x .result) (x .ensures) (c .before .if1 .left) (c .if2 .left),
+      fitting-more (a .costs) (a .times) (a .job) s (w .result) (w .ensures) now (l .last) (l .i) (l .inv .3) more (x .result) (x .ensures) (c .before .if1 .left) (c .if2 .left),
     )
 
 returns-3 : tie.Need-returns-3 Inv-loop μ-loop
@@ -154,7 +154,7 @@ returns-3 c =
     let a = z .args in
     let s = bounded-sends (a .costs) (a .job) (z .pre) (nodes-length (a .job) (z .good .1 .1 .0)) (shares-length (a .job) (z .good .1 .1 .0)) in
     let w = c .before .before .before .chunk-terms in
-    fitting-all (a .costs) (a .busy) (a .job) s (w .result) (w .ensures) (record { link = l .link; free = l .free }) (l .last) (l .i) (l .inv .3) (c .loop-test .left)
+    fitting-all (a .costs) (a .times) (a .job) s (w .result) (w .ensures) (record { link = l .link; free = l .free }) (l .last) (l .i) (l .inv .3) (c .loop-test .left)
 
 pub job-fits-spec : {M : Type 1} → statement M
 job-fits-spec =

@@ -20,14 +20,14 @@ abbrev μ-loop : tie.MeasureT-loop
 wide-requires : tie.Need-wide-requires Inv-loop μ-loop
 wide-requires c κs = search needs
 
-least-requires : tie.Need-least-requires Inv-loop μ-loop
-least-requires c κs = search needs
+smaller-size-requires : tie.Need-smaller-size-requires Inv-loop μ-loop
+smaller-size-requires c κs = search needs
 
 loop-holds : tie.Need-loop-holds Inv-loop μ-loop
 loop-holds c =
     let a = c .before .before .args in
     let fits : length (a .t1) ≡ 64 = omega arith in
-    let n : c .least .result ≡ min (a .count) (length (a .t1)) = omega arith in
+    let n : c .smaller-size .result ≡ min (a .count) (length (a .t1)) = omega arith in
     (omega arith, omega arith, ap (λ (k : ℕ). nodesKnown (a .limit) (take k (a .t1))) n ∙ ap (nodesKnown (a .limit)) (take-least (a .count) (a .t1)))
 
 array-read-wide8 : tie.Need-array-read-wide8 Inv-loop μ-loop
@@ -40,7 +40,7 @@ returns : tie.Need-returns Inv-loop μ-loop
 returns c =
     let a = c .before .before .before .before .before .before .args in
     let l = c .before .before .before .loop in
-    let n = c .before .before .before .before .least .result in
+    let n = c .before .before .before .before .smaller-size .result in
     let fits : n ≤ length (a .t1) = omega arith in
     sym (sym (l .inv .2) ∙ known-low (a .limit) (a .t1) (l .i) n (c .before .before .loop-test .taken) fits (subst (λ (k : ℕ). k < 1) (c .before .wide8 .ensures .0) (c .if1 .taken)))
 
@@ -48,7 +48,7 @@ returns-2 : tie.Need-returns-2 Inv-loop μ-loop
 returns-2 c =
     let a = c .before .before .before .before .before .before .before .args in
     let l = c .before .before .before .before .loop in
-    let n = c .before .before .before .before .before .least .result in
+    let n = c .before .before .before .before .before .smaller-size .result in
     let fits : n ≤ length (a .t1) = omega arith in
     sym (sym (l .inv .2) ∙ known-high (a .limit) (a .t1) (l .i) n (c .before .before .before .loop-test .taken) fits (omega (arith, c .before .before .wide8 .ensures .0, c .before .before .before .before .before .before .wide .ensures, c .if2 .taken)))
 
@@ -62,7 +62,7 @@ loop-again : tie.Need-loop-again Inv-loop μ-loop
 loop-again c =
     let a = c .before .before .before .before .before .before .before .args in
     let l = c .before .before .before .before .loop in
-    let n = c .before .before .before .before .before .least .result in
+    let n = c .before .before .before .before .before .smaller-size .result in
     let fits : n ≤ length (a .t1) = omega arith in
     let low : 1 ≤ getD (a .t1) (l .i) 0 = subst (λ (k : ℕ). 1 ≤ k) (c .before .before .wide8 .ensures .0) (c .before .if1 .left) in
     let high : getD (a .t1) (l .i) 0 ≤ a .limit = omega (arith, c .before .before .wide8 .ensures .0, c .before .before .before .before .before .before .wide .ensures, c .if2 .left) in
@@ -72,7 +72,7 @@ returns-3 : tie.Need-returns-3 Inv-loop μ-loop
 returns-3 c =
     let a = c .before .before .before .before .args in
     let l = c .before .loop in
-    let n = c .before .before .least .result in
+    let n = c .before .before .smaller-size .result in
     let all : l .i ≡ n = omega arith in
     sym (known-none (a .limit) (a .t1) n) ∙ ap (λ (k : ℕ). nodesKnown (a .limit) (slice k n (a .t1))) (sym all) ∙ l .inv .2
 
@@ -83,7 +83,7 @@ nodes-known-spec =
     Inv-loop
     μ-loop
     wide-requires
-    least-requires
+    smaller-size-requires
     loop-holds
     array-read-wide8
     wide8-requires

@@ -6,21 +6,21 @@ use native.Mathlib.Omega.{arith}
 use lib.ListN.{length, take, length-set}
 use lib.Seq.{slice}
 use borrow.Author.Tests.{not-true, not-false}
-use Rattle.soundness.specs.Model.{jobsPass, numbersOf}
+use Rattle.soundness.specs.Model.{jobsPass, jobNumbers}
 use Rattle.soundness.specs.Steps.{pass-more, pass-stop, pass-none, numbers-more}
 use borrow.Author.Needs.{needs}
 use Rattle.soundness.proofs.surveyed.Statement.{statement}
 use Rattle.soundness.proofs.surveyed.Tie as tie
 
 abbrev Inv-loop : tie.InvT-loop
-Inv-loop figures count jobs numbers₀ i₀ numbers i =
+Inv-loop bounds count jobs numbers₀ i₀ numbers i =
     (i ≤ count)
-    × (jobsPass figures (take count jobs) ≡ jobsPass figures (slice i count jobs))
+    × (jobsPass bounds (take count jobs) ≡ jobsPass bounds (slice i count jobs))
     × (length numbers ≡ 128)
-    × (take i numbers ≡ numbersOf (take i jobs))
+    × (take i numbers ≡ jobNumbers (take i jobs))
 
 abbrev μ-loop : tie.MeasureT-loop
-μ-loop figures count jobs numbers₀ i₀ numbers i = count - i
+μ-loop bounds count jobs numbers₀ i₀ numbers i = count - i
 
 loop-holds : tie.Need-loop-holds Inv-loop μ-loop
 loop-holds c = (omega arith, refl, refl, refl)
@@ -40,7 +40,7 @@ returns c =
     let l = c .before .before .before .before .loop in
     let fits : a .count ≤ length (a .t2) = omega arith in
     record {
-      tells = sym (l .inv .1 ∙ pass-stop (a .figures) (a .t2) (l .i) (a .count) (c .before .before .before .loop-test .taken) fits (sym (c .before .job-passes .ensures) ∙ not-true _ (c .if1 .taken)));
+      tells = sym (l .inv .1 ∙ pass-stop (a .bounds) (a .t2) (l .i) (a .count) (c .before .before .before .loop-test .taken) fits (sym (c .before .job-passes .ensures) ∙ not-true _ (c .if1 .taken)));
       numbers = λ e. absurd (false≢true e);
       many = l .inv .2;
     }
@@ -64,7 +64,7 @@ loop-again c =
     let h = c .before .before .before .loop-test .taken in
     let fits : a .count ≤ length (a .t2) = omega arith in (
       omega arith,
-      l .inv .1 ∙ pass-more (a .figures) (a .t2) (l .i) (a .count) h fits (sym (c .before .job-passes .ensures) ∙ not-false _ (c .if1 .left)),
+      l .inv .1 ∙ pass-more (a .bounds) (a .t2) (l .i) (a .count) h fits (sym (c .before .job-passes .ensures) ∙ not-false _ (c .if1 .left)),
       simp length-set (l .inv .2),
       numbers-more (a .t2) (l .numbers) (l .i) (omega arith) (omega (arith, l .inv .2)) (l .inv .3),
     )
@@ -75,8 +75,8 @@ returns-2 c =
     let l = c .before .loop in
     let all : l .i ≡ a .count = omega arith in
     record {
-      tells = sym (l .inv .1 ∙ ap (λ (k : ℕ). jobsPass (a .figures) (slice k (a .count) (a .t2))) all ∙ pass-none (a .figures) (a .t2) (a .count));
-      numbers = λ _. subst (λ (k : ℕ). take k (l .numbers) ≡ numbersOf (take k (a .t2))) all (l .inv .3);
+      tells = sym (l .inv .1 ∙ ap (λ (k : ℕ). jobsPass (a .bounds) (slice k (a .count) (a .t2))) all ∙ pass-none (a .bounds) (a .t2) (a .count));
+      numbers = λ _. subst (λ (k : ℕ). take k (l .numbers) ≡ jobNumbers (take k (a .t2))) all (l .inv .3);
       many = l .inv .2;
     }
 

@@ -4,7 +4,7 @@ use mathlib.Core.Bool.{true}
 use native.Mathlib.Nat.{sub-zero}
 use borrow.Author.Tests.{not-true, not-false}
 use lib.ListN.{take}
-use Rattle.soundness.specs.Model.{allDiffer, numbersOf}
+use Rattle.soundness.specs.Model.{allDiffer, jobNumbers}
 use Rattle.soundness.specs.Steps.{all-bounded, waiting-unsound, waiting-twice, waiting-rest}
 use borrow.Author.Needs.{needs}
 use Rattle.soundness.proofs.waiting_pass.Statement.{statement}
@@ -16,7 +16,7 @@ surveyed-requires c κs = search needs
 returns : tie.Need-returns
 returns c =
     let a = c .before .before .before .args in
-    sym (waiting-unsound (a .figures) (a .busy) (take (a .count) (a .jobs)) (sym (c .before .before .surveyed .ensures .tells) ∙ not-true _ (c .if1 .taken)))
+    sym (waiting-unsound (a .bounds) (a .times) (take (a .count) (a .jobs)) (sym (c .before .before .surveyed .ensures .tells) ∙ not-true _ (c .if1 .taken)))
 
 sub-all-differ : tie.Need-sub-all-differ
 sub-all-differ c = search needs
@@ -35,24 +35,24 @@ returns-2 c =
     let a = c .before .before .before .before .before .before .before .before .args in
     let survey = c .before .before .before .before .before .before .before .surveyed in
     let passed : survey .result .passes ≡ true = not-false _ (c .before .before .before .before .before .if1 .left) in
-    let differ : c .before .all-differ .result ≡ allDiffer (numbersOf (take (a .count) (a .jobs))) = c .before .all-differ .ensures ∙ rw sub-zero (ap allDiffer (survey .ensures .numbers passed)) in
-    sym (waiting-twice (a .figures) (a .busy) (take (a .count) (a .jobs)) (sym differ ∙ not-true _ (c .if2 .taken)))
+    let differ : c .before .all-differ .result ≡ allDiffer (jobNumbers (take (a .count) (a .jobs))) = c .before .all-differ .ensures ∙ rw sub-zero (ap allDiffer (survey .ensures .numbers passed)) in
+    sym (waiting-twice (a .bounds) (a .times) (take (a .count) (a .jobs)) (sym differ ∙ not-true _ (c .if2 .taken)))
 
 in-turn-requires : tie.Need-in-turn-requires
 in-turn-requires c κs =
-    let z = c .before .before .before .before .before .before .before .before in
+    let z = c .before .before .before .before .before .before .before .before .before in
     let a = z .args in
-    let survey = c .before .before .before .before .before .before .before .surveyed in
-    let passed : survey .result .passes ≡ true = not-false _ (c .before .before .before .before .before .if1 .left) in
-    (z .pre .1, all-bounded (a .figures) (take (a .count) (a .jobs)) (z .pre .0) (sym (survey .ensures .tells) ∙ passed))
+    let survey = c .before .before .before .before .before .before .before .before .surveyed in
+    let passed : survey .result .passes ≡ true = not-false _ (c .before .before .before .before .before .before .if1 .left) in
+    (z .pre .1, all-bounded (a .bounds) (take (a .count) (a .jobs)) (z .pre .0) (sym (survey .ensures .tells) ∙ passed))
 
 returns-3 : tie.Need-returns-3
 returns-3 c =
-    let a = c .before .before .before .before .before .before .before .before .before .args in
-    let survey = c .before .before .before .before .before .before .before .before .surveyed in
-    let passed : survey .result .passes ≡ true = not-false _ (c .before .before .before .before .before .before .if1 .left) in
-    let differ : c .before .before .all-differ .result ≡ allDiffer (numbersOf (take (a .count) (a .jobs))) = c .before .before .all-differ .ensures ∙ rw sub-zero (ap allDiffer (survey .ensures .numbers passed)) in
-    c .in-turn .ensures ∙ sym (waiting-rest (a .figures) (a .busy) (take (a .count) (a .jobs)) (sym (survey .ensures .tells) ∙ passed) (sym differ ∙ not-false _ (c .before .if2 .left)))
+    let a = c .before .before .before .before .before .before .before .before .before .before .args in
+    let survey = c .before .before .before .before .before .before .before .before .before .surveyed in
+    let passed : survey .result .passes ≡ true = not-false _ (c .before .before .before .before .before .before .before .if1 .left) in
+    let differ : c .before .before .before .all-differ .result ≡ allDiffer (jobNumbers (take (a .count) (a .jobs))) = c .before .before .before .all-differ .ensures ∙ rw sub-zero (ap allDiffer (survey .ensures .numbers passed)) in
+    c .in-turn .ensures ∙ sym (waiting-rest (a .bounds) (a .times) (take (a .count) (a .jobs)) (sym (survey .ensures .tells) ∙ passed) (sym differ ∙ not-false _ (c .before .before .if2 .left)))
 
 pub waiting-pass-spec : {M : Type 1} → statement M
 waiting-pass-spec =

@@ -97,7 +97,7 @@ returns c =
     let x = subst (λ (js : List Job). Kept 128 whole old (l .self .jobs) (l .kept) (keep (startsAfter (a .time)) js)) none (l .inv .2) in
     let e = kept-all 128 whole old (l .self .jobs) (l .kept) (omega (arith, l .inv .0)) x in
     ap (λ (f : Farm). withJobs f (f .used) (l .kept) (f .jobs)) (l .inv .1)
-    ∙ moved-is (a .t1) (a .time) _ (b .result .busy) (b .result .held) (l .kept) (l .self .jobs) (s .pre .due .jobs) (b .ensures .0) (b .ensures .1) (e .0) (e .1)
+    ∙ moved-is (a .t1) (a .time) _ (b .result .times) (b .result .held) (l .kept) (l .self .jobs) (s .pre .due .jobs) (b .ensures .0) (b .ensures .1) (e .0) (e .1)
 
 pub moved-spec : {M : Type 1} → statement M
 moved-spec =

@@ -18,8 +18,8 @@ returns c =
     let size : f .waiting ≤ length (f .jobs) = omega (arith, jobs-length f (s .good .0), passes-within f (s .pre) .waiting) in
     withdraws-none f (s .args .number) _ (s .pre) size (c .before .place-of .ensures) _ _ (f .jobs) (c .if1 .taken)
 
-sub-t10 : tie.Need-sub-t10
-sub-t10 c =
+sub-t11 : tie.Need-sub-t11
+sub-t11 c =
     let s = c .before .before .before in
     let f = s .args .self in
     let size : f .waiting ≤ length (f .jobs) = omega (arith, jobs-length f (s .good .0), passes-within f (s .pre) .waiting) in
@@ -42,4 +42,4 @@ returns-2 c =
     withdraws-one f (s .args .number) _ (s .pre) size at (c .closed-up .result) (omega (arith, withdraw-place f (s .args .number) _ (s .pre) size at, c .before .if1 .left)) (c .closed-up .ensures)
 
 pub withdraw-unchecked-spec : {M : Type 1} → statement M
-withdraw-unchecked-spec = tie.close (tie.spec place-of-requires returns sub-t10 closed-up-requires returns-2)
+withdraw-unchecked-spec = tie.close (tie.spec place-of-requires returns sub-t11 closed-up-requires returns-2)

@@ -274,7 +274,7 @@ abbrev Told : Type 0
 Told = To (λ (c : From loop-less-2). c .before .before .before .before)
 
 -- It is told what it asks.
-query-told : (m : Told) → said (m .match2 .answer) ≡ reply (farm (turn (m .before .before .before .before))) (queryCall (m .before .before .order .given .0 .0))
+query-told : (m : Told) → said (m .match2 .told) ≡ reply (farm (turn (m .before .before .before .before))) (queryCall (m .before .before .order .given .0 .0))
 query-told m =
     let f = farm (turn (m .before .before .before .before)) in
     ⊎-elim (λ x. ap said (x .4) ∙ x .3 .ensures ∙ ap (λ (q : Query). reply f (queryCall q)) (sym (x .1 .given .1)))

@@ -49,8 +49,8 @@ mul-held c = search needs
 element-copy-out-held : tie.Need-element-copy-out-held Inv-loop μ-loop
 element-copy-out-held c = search needs
 
-less-requires : tie.Need-less-requires Inv-loop μ-loop
-less-requires c κs = search needs
+difference-requires : tie.Need-difference-requires Inv-loop μ-loop
+difference-requires c κs = search needs
 
 add-held : tie.Need-add-held Inv-loop μ-loop
 add-held c =
@@ -60,7 +60,7 @@ add-held c =
     let s = t .before .before .before .before .before in
     let b = s .args .job .booking in
     let n = ends-next (w .result) b (s .pre .sends .nodes) (s .pre .sends .shares) (l .i) (l .last) (t .loop-test .taken) (l .inv .1 .ends) in
-    rw (c .less .ensures, c .before .before .chunk-on .ensures) (omega (arith, n .0, s .pre .room, s .pre .sends .few, l .inv .1 .most))
+    rw (c .difference .ensures, c .before .before .chunk-on .ensures) (omega (arith, n .0, s .pre .room, s .pre .sends .few, l .inv .1 .most))
 
 mul-held-2 : tie.Need-mul-held-2 Inv-loop μ-loop
 mul-held-2 c = search needs
@@ -81,7 +81,7 @@ loop-again c =
     let w = t .before .before .chunk-terms in
     let s = t .before .before .before .before .before in
     let b = s .args .job .booking in
-    rw (c .less .ensures, c .before .before .chunk-on .ensures)
+    rw (c .difference .ensures, c .before .before .chunk-on .ensures)
     (omega arith, raising-next (w .result) b (s .pre .sends .nodes) (s .pre .sends .shares) (s .args .job .show - 1) (rw (w .ensures)) (s .args .held .now) (l .held) (l .last) (l .i) (t .loop-test .taken) (l .inv .1))
 
 returns : tie.Need-returns Inv-loop μ-loop
@@ -109,7 +109,7 @@ raise-spec =
     chunk-on-requires
     mul-held
     element-copy-out-held
-    less-requires
+    difference-requires
     add-held
     mul-held-2
     element-write-held

@@ -19,7 +19,7 @@ use Rattle.walk.specs.declared.Job.{Job}
 use Rattle.walk.specs.declared.Chunk.{Chunk}
 use Rattle.walk.specs.declared.ChunkTerms.{ChunkTerms}
 use Rattle.walk.specs.Model.{greatest}
-use Rattle.walk.specs.Chunks.{Sends, linesFrom, latestFrom, ends-next, ends-all, chunk-fits}
+use Rattle.walk.specs.Chunks.{Sendable, linesFrom, latestFrom, ends-next, ends-all, chunk-fits}
 use Rattle.timetable.specs.LinesSteps.{Filled, job-next, job-written}
 use Rattle.timetable.proofs.WriteJob.{ps, Pre, Post}
 use Rattle.timetable.proofs.Chunks as slice
@@ -103,7 +103,7 @@ asked w κs qs a good within bs =
     let job : Job = a .1 .1 .1 .0 in
     let b : Booking = job .booking in
     let count : ℕ = b .count in
-    let sends : Sends costs job = within .0 in
+    let sends : Sendable costs job = within .0 in
     let bytes : length (now out) * 64 < 2 ^ 63 = good .0 .1 in
     let room : at + count ≤ length (now out) = within .1 in (
       λ _. tt,

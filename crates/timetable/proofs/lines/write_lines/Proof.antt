@@ -29,7 +29,7 @@ use Rattle.limits.specs.declared.FarmCosts.{FarmCosts}
 use Rattle.walk.specs.declared.Job.{Job}
 use Rattle.walk.specs.declared.Chunk.{Chunk}
 use Rattle.walk.specs.Model.{noJob, linesOf}
-use Rattle.walk.specs.Chunks.{Sends}
+use Rattle.walk.specs.Chunks.{Sendable}
 use Rattle.timetable.specs.Model.{linesOfAll}
 use Rattle.timetable.specs.BeginSteps.{chunks, chunks-next}
 use Rattle.timetable.specs.LinesSteps.{Filled, stored-next, all-stored, chunks-none, filled-length, job-lines}
@@ -134,7 +134,7 @@ asked w κs qs a good within bs =
               λ taken.
                   let more : k < count = ltb-true k count taken in
                   let job : Job = getD jobs k noJob in
-                  let sends : Sends costs job = all-front noJob (Sends costs) jobs count k more (omega arith) (within .1) in
+                  let sends : Sendable costs job = all-front noJob (Sendable costs) jobs count k more (omega arith) (within .1) in
                   let room : at + job .booking .count + chunks (drop (k + 1) (take count jobs)) ≡ e = omega (arith, inv .3, chunks-next jobs count k more (omega arith)) in (
                     record { fits = omega arith },
                     (

@@ -6,7 +6,7 @@ use native.Mathlib.Omega.{arith}
 use lib.ListN.{length, length-set}
 use Rattle.walk.specs.Model.{greatest}
 use Rattle.walk.specs.Chunks.{linesFrom, latestFrom, ends-next, ends-all, chunk-fits}
-use Rattle.timetable.specs.Model.{rowOf}
+use Rattle.timetable.specs.Model.{chunkRow}
 use Rattle.timetable.specs.LinesSteps.{Filled, row-next, row-written}
 use borrow.Author.Needs.{needs}
 use Rattle.timetable.proofs.lines.write_row_job.Statement.{statement}
@@ -16,7 +16,7 @@ abbrev Inv-loop : tie.InvT-loop
 Inv-loop rows₀ at booking count terms last₀ i₀ rows last i =
     (i ≤ count)
     × (length rows ≡ length rows₀)
-    × (Filled rows₀ at (map rowOf (linesFrom terms booking 0 last₀)) (at + count) ≡ Filled rows (at + i) (map rowOf (linesFrom terms booking i last)) (at + count))
+    × (Filled rows₀ at (map chunkRow (linesFrom terms booking 0 last₀)) (at + count) ≡ Filled rows (at + i) (map chunkRow (linesFrom terms booking i last)) (at + count))
     × (latestFrom terms booking i last ≤ greatest)
 
 abbrev μ-loop : tie.MeasureT-loop

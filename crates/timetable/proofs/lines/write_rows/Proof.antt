@@ -5,7 +5,7 @@ use native.Mathlib.Omega.{arith}
 use Rattle.lists.specs.Laws.{all-front}
 use Rattle.keys.specs.declared.Key.{Key}
 use Rattle.keys.specs.Model.{noKey}
-use Rattle.walk.specs.Chunks.{Sends}
+use Rattle.walk.specs.Chunks.{Sendable}
 use Rattle.timetable.specs.LinesSteps.{Writing, writing-room, writing-next, writing-all, named-all}
 use borrow.Author.Needs.{needs}
 use Rattle.timetable.proofs.lines.write_rows.Statement.{statement}
@@ -45,7 +45,7 @@ write-row-job-requires c κs =
     let l = c .before .before .before .before .before .loop in
     let h = c .before .before .before .before .loop-test .taken in
     let room = writing-room (a .costs) (a .t3) (a .t4) (a .count) (l .k) h (omega arith) (a .rows .now) (l .rows) (l .at) (l .inv .1) in
-    (named-all (Sends (a .costs)) (a .t3) (a .t4) (a .count) (l .k) h (omega arith) (b .pre .2), omega arith)
+    (named-all (Sendable (a .costs)) (a .t3) (a .t4) (a .count) (l .k) h (omega arith) (b .pre .2), omega arith)
 
 add-at : tie.Need-add-at Inv-loop μ-loop
 add-at c =
@@ -66,7 +66,7 @@ loop-again c =
     let a = b .args in
     let l = c .before .before .before .before .before .before .before .loop in
     let h = c .before .before .before .before .before .before .loop-test .taken in
-    let sends = named-all (Sends (a .costs)) (a .t3) (a .t4) (a .count) (l .k) h (omega arith) (b .pre .2) in
+    let sends = named-all (Sendable (a .costs)) (a .t3) (a .t4) (a .count) (l .k) h (omega arith) (b .pre .2) in
     (omega arith, rw (c .before .write-row-job .ensures) (writing-next (a .costs) (a .t3) (a .t4) (a .count) (l .k) h (omega arith) (a .rows .now) (l .rows) (l .at) (l .inv .1) sends (omega arith)))
 
 returns : tie.Need-returns Inv-loop μ-loop
