@@ -5,7 +5,7 @@ use Prim.Native.Nat.{ℕ, _+_, _-_, _≤_, _<_}
 use native.Mathlib.Numerals.{add-one}
 use native.Mathlib.Omega.{arith}
 use lib.ListN.{length, getD, take, drop, set, length-set, take-append-drop}
-use lib.Seq.{take-suc-set, drop-set-lt, drop-drop, length-take-le, getD-drop}
+use lib.Seq.{take-suc, take-suc-set, drop-set-lt, drop-drop, length-take-le, getD-drop}
 
 -- One element further, what is behind is still the old.
 pub rest-more : {A : Type 0} (out old : List A) (i : ℕ) (x : A) → drop i out ≡ drop i old → drop (i + 1) (set out i x) ≡ drop (i + 1) old
@@ -22,6 +22,17 @@ pub record Kept {A : Type 0} (n : ℕ) (whole old out : List A) (kept : ℕ) (re
   pub size : length out ≡ n
   pub front : whole ≡ take kept out ++ rest
   pub behind : drop kept out ≡ drop kept old
+
+-- One more is kept where it stands, or is put there.
+pub kept-same : {A : Type 0} (d : A) (n : ℕ) (whole old out : List A) (k : ℕ) (rest : List A) → k < n → Kept n whole old out k (getD out k d ∷ rest) → Kept n whole old out (k + 1) rest
+kept-same {A} d n whole old out k rest h y =
+    let s = y .size in
+    let t : take (k + 1) out ≡ take k out ++ getD out k d ∷ [] = rw (add-one k) (take-suc out k d (omega arith)) in
+    record {
+      size = s;
+      front = y .front ∙ sym (ap (λ (l : List A). l ++ rest) t ∙ append-assoc (take k out) _ rest);
+      behind = rw (← drop-drop 1 k out, ← drop-drop 1 k old, y .behind);
+    }
 
 pub kept-more : {A : Type 0} (n : ℕ) (whole old out : List A) (k : ℕ) (x : A) (rest : List A) → k < n → Kept n whole old out k (x ∷ rest) → Kept n whole old (set out k x) (k + 1) rest
 kept-more {A} n whole old out k x rest h y =

@@ -12,8 +12,6 @@ use crate::calls::refused;
 use crate::passing::passes;
 use answers::Answer;
 use answers::Question;
-use queue::closed_up;
-use queue::place_of;
 
 impl Farm {
     // A waiting job leaves by its number: questions 11 and 12 in that order.
@@ -26,16 +24,28 @@ impl Farm {
         decided(self, self.withdraw_unchecked(number))
     }
 
-    // The same of a farm that passes question 11: what it is told and, where the number waits, the jobs that wait then. The caller keeps the farm.
+    // The same of a farm that passes question 11: what it is told and, where the number waits, the jobs that wait then: those behind its
+    // job move up by one, so that all keep their order. The caller keeps the farm.
     pub fn withdraw_unchecked(self, number: u64) -> Decision
         requires { ⌜ passesOf self ≡ true ⌝ }
         ensures { λ r. ⌜ Decides self (withdrawSaid self number) (withdrawFarm self number) r ⌝ }
     {
-        let jobs = self.jobs;
         let used = self.used;
         let waiting = self.waiting;
-        let place = place_of(jobs, waiting, number);
-        if place == waiting {
+        let mut jobs = self.jobs;
+        let mut kept = 0;
+        let mut i = 0;
+        while i < waiting {
+            let job = jobs[i];
+            if kept < i {
+                jobs[kept] = job;
+                kept += 1;
+            } else if job.number != number {
+                kept += 1;
+            }
+            i += 1;
+        }
+        if kept == waiting {
             return Decision {
                 granted: false,
                 answer: Answer::No(Question::Waiting),
@@ -48,8 +58,8 @@ impl Farm {
             granted: true,
             answer: Answer::Gone { job: number },
             used,
-            waiting: waiting - 1,
-            jobs: closed_up(jobs, waiting, place),
+            waiting: kept,
+            jobs,
         }
     }
 }

@@ -61,3 +61,13 @@ without-perm n (j ∷ js) h = go (eqb (j .number) n) h (without-perm n js)
         → List·Permᴰ (j ∷ js) (cond b j (ofNumber n js) ∷ cond b js (j ∷ without n js))
     go true e r = Permᴰ·refl (j ∷ js)
     go false e r = List·Permᴰ·trans (List·Permᴰ·cons refl (r e)) (List·Permᴰ·swap refl refl)
+
+-- Where none has the number, none is left out.
+pub without-none : (n : ℕ) (js : List Job) → hasNumber n js ≡ false → without n js ≡ js
+unfolding hasNumber without
+without-none n [] h = refl
+without-none n (j ∷ js) h = go (eqb (j .number) n) h (without-none n js)
+  where
+    go : (b : Bool) → cond b true (hasNumber n js) ≡ false → (hasNumber n js ≡ false → without n js ≡ js) → cond b js (j ∷ without n js) ≡ j ∷ js
+    go true k r = absurd (false≢true (sym k))
+    go false k r = ap (λ (l : List Job). j ∷ l) (r k)

@@ -1,17 +1,16 @@
--- A number's place among jobs, and an array of jobs without the one at a place: what the functions of src/lib.rt promise, and their loops' steps.
+-- A number's place among jobs, and an array of jobs without the one of a number: the steps of the loops that look for them.
 use mathlib.Core.Path.{_≡_, refl, ap, sym, subst, _∙_}
 use mathlib.Core.List.{List, [], _∷_, _++_}
 use mathlib.Core.Bool.{Bool, true, false, cond, false≢true}
-use Prim.Native.Nat.{ℕ, suc, _+_, _-_, _≤_, _<_}
+use Prim.Native.Nat.{ℕ, suc, _+_, _≤_, _<_}
 use native.Mathlib.Omega.{arith}
 use native.Mathlib.Decide.{decLt}
 use native.Mathlib.Numerals.{add-one}
 use borrow.Author.Tests.{eq-eqb, ne-eqb}
 use lib.Dec.{eqb}
-use lib.ListN.{length, getD, take, drop}
-use lib.Seq.{take-take}
+use lib.ListN.{length, getD, take, drop, set}
 use Rattle.lists.specs.Laws.{front-next, front-none}
-use Rattle.lists.specs.Fronts.{Kept, kept-all}
+use Rattle.lists.specs.Fronts.{Kept, behind-same, kept-same, kept-more, kept-all}
 use Rattle.walk.specs.declared.Job.{Job}
 use Rattle.walk.specs.Model.{noJob}
 use Rattle.queue.specs.Model.{hasNumber, ofNumber, without}
@@ -20,14 +19,6 @@ use Rattle.queue.specs.Model.{hasNumber, ofNumber, without}
 unfoldable pub placeOf : ℕ → List Job → ℕ
 placeOf n [] = 0
 placeOf n (j ∷ js) = cond (eqb (j .number) n) 0 (suc (placeOf n js))
-
--- jobs without the one at a place
-abbrev pub dropped : ℕ → List Job → List Job
-dropped p js = take p js ++ drop (p + 1) js
-
--- an array whose first `count` jobs are without the one at a place; from where the last of them stood on it is as it was
-abbrev pub closedUp : List Job → ℕ → ℕ → List Job
-closedUp jobs count place = dropped place (take count jobs) ++ drop (count - 1) jobs
 
 -- ---- The search
 
@@ -75,34 +66,6 @@ module _ (n : ℕ) (jobs : List Job) (count : ℕ) (f : count ≤ length jobs) w
 
 -- ---- What the place tells
 
--- It is among theirs or at their end; among them the number is one of the jobs', and at the end it is none's.
-pub place-within : (n : ℕ) (js : List Job) → placeOf n js ≤ length js
-unfolding placeOf
-place-within n [] = omega arith
-place-within n (j ∷ js) = go (eqb (j .number) n) (place-within n js)
-  where
-    go : (b : Bool) → placeOf n js ≤ length js → cond b 0 (suc (placeOf n js)) ≤ suc (length js)
-    go true h = omega arith
-    go false h = omega arith
-
-pub place-has : (n : ℕ) (js : List Job) → placeOf n js < length js → hasNumber n js ≡ true
-unfolding placeOf hasNumber
-place-has n [] h = absurd (omega arith)
-place-has n (j ∷ js) h = go (eqb (j .number) n) h (place-has n js)
-  where
-    go : (b : Bool) → cond b 0 (suc (placeOf n js)) < suc (length js) → (placeOf n js < length js → hasNumber n js ≡ true) → cond b true (hasNumber n js) ≡ true
-    go true k r = refl
-    go false k r = r (omega arith)
-
-pub place-none : (n : ℕ) (js : List Job) → placeOf n js ≡ length js → hasNumber n js ≡ false
-unfolding placeOf hasNumber
-place-none n [] h = refl
-place-none n (j ∷ js) h = go (eqb (j .number) n) h (place-none n js)
-  where
-    go : (b : Bool) → cond b 0 (suc (placeOf n js)) ≡ suc (length js) → (placeOf n js ≡ length js → hasNumber n js ≡ false) → cond b true (hasNumber n js) ≡ false
-    go true k r = absurd (omega arith)
-    go false k r = r (omega arith)
-
 -- The job there is the job of that number.
 pub place-job : (n : ℕ) (js : List Job) → placeOf n js < length js → getD js (placeOf n js) noJob ≡ ofNumber n js
 unfolding placeOf ofNumber
@@ -124,29 +87,92 @@ has-place n (j ∷ js) h = go (eqb (j .number) n) h (has-place n js)
     go true k r = omega arith
     go false k r = omega (arith, r k)
 
--- The jobs without the one at the number's place are those without the job of that number.
-pub dropped-without : (n : ℕ) (js : List Job) → placeOf n js < length js → dropped (placeOf n js) js ≡ without n js
-unfolding placeOf without
-dropped-without n [] h = absurd (omega arith)
-dropped-without n (j ∷ js) h = go (eqb (j .number) n) h (dropped-without n js)
-  where
-    go : (b : Bool) → cond b 0 (suc (placeOf n js)) < suc (length js) → (placeOf n js < length js → dropped (placeOf n js) js ≡ without n js)
-        → dropped (cond b 0 (suc (placeOf n js))) (j ∷ js) ≡ cond b js (j ∷ without n js)
-    go true k r = refl
-    go false k r = let e : suc (placeOf n js) + 1 ≡ suc (placeOf n js + 1) = omega arith in rw e (ap (λ (l : List Job). j ∷ l) (r (omega arith)))
+-- ---- The jobs without the one of a number, moved up in their array
 
--- ---- The loop
+-- A job that has another number is not left out, one that has it is.
+module _ {n : ℕ} (j : Job) (js : List Job) where
+  without-other : (j .number ≡ n → ⊥) → without n (j ∷ js) ≡ j ∷ without n js
+  unfolding without
+  without-other d = rw (ne-eqb (j .number) n d)
 
--- the jobs that have moved up, at place i, and those behind them that are still to come
-abbrev pub Closing : List Job → ℕ → ℕ → List Job → ℕ → Type 0
-Closing jobs count place left i = Kept 128 (take place jobs ++ drop (place + 1) (take count jobs)) jobs left i (drop (i + 1) (take count jobs))
+  without-its : j .number ≡ n → without n (j ∷ js) ≡ js
+  unfolding without
+  without-its e = rw (eq-eqb (j .number) n e)
 
--- At the end the array is closed up.
-pub closing-all : (jobs : List Job) (count place : ℕ) (left : List Job) (i : ℕ) → length jobs ≡ 128 → count ≤ 128 → place ≤ i → i + 1 ≡ count → Closing jobs count place left i → left ≡ closedUp jobs count place
-closing-all jobs count place left i s n h e x =
-    let none : drop (i + 1) (take count jobs) ≡ [] = front-none jobs count (i + 1) (omega arith) (omega arith) in
-    let whole = take place jobs ++ drop (place + 1) (take count jobs) in
-    let all : left ≡ whole ++ drop i jobs = kept-all 128 whole jobs left i (omega arith) (subst (Kept 128 whole jobs left i) none x) .1 in
-    let last : i ≡ count - 1 = omega arith in
-    let front : take place jobs ≡ take place (take count jobs) = sym (take-take place count jobs (omega arith)) in
-    all ∙ ap (λ (k : ℕ). whole ++ drop k jobs) last ∙ ap (λ (l : List Job). (l ++ drop (place + 1) (take count jobs)) ++ drop (count - 1) jobs) front
+without-nothing : (n : ℕ) → without n [] ≡ []
+unfolding without
+without-nothing n = refl
+
+-- of the first `count` jobs those before i are looked at, and all of them are kept, or all but the one of the number
+pub record Leaving (n : ℕ) (jobs : List Job) (count : ℕ) (left : List Job) (kept i : ℕ) : Type 0 where
+  pub some : kept ≤ i
+  pub looked : i ≤ count
+  pub without-one : kept < i → Kept 128 (without n (take count jobs)) jobs left kept (drop i (take count jobs))
+  pub with-all : i ≤ kept → Kept 128 (without n (take count jobs)) jobs left kept (without n (drop i (take count jobs)))
+
+module _ (n : ℕ) (jobs : List Job) (count : ℕ) (size : length jobs ≡ 128) (few : count ≤ 128) where
+  pub leave-start : Leaving n jobs count jobs 0 0
+  leave-start = record {
+    some = omega arith;
+    looked = omega arith;
+    without-one = λ h. absurd (omega arith);
+    with-all = λ h. record { size = size; front = refl; behind = refl };
+  }
+
+  module _ (left : List Job) (kept i : ℕ) (h : i < count) (x : Leaving n jobs count left kept i) where
+    next : drop i (take count jobs) ≡ getD jobs i noJob ∷ drop (i + 1) (take count jobs)
+    next = front-next noJob jobs count i h (omega arith)
+
+    -- Behind the one that leaves each job moves up.
+    pub leave-up : kept < i → Leaving n jobs count (set left kept (getD left i noJob)) (kept + 1) (i + 1)
+    leave-up k =
+        let y = x .without-one k in
+        let same = behind-same noJob left jobs kept i (x .some) (y .behind) in
+        record {
+          some = omega arith;
+          looked = omega arith;
+          without-one = λ _. rw same (kept-more 128 _ jobs left kept _ _ (omega arith) (subst (Kept 128 _ jobs left kept) next y));
+          with-all = λ l. absurd (omega arith);
+        }
+
+    -- Before it each stays where it is,
+    pub leave-stay : i ≤ kept → (getD left i noJob .number ≡ n → ⊥) → Leaving n jobs count left (kept + 1) (i + 1)
+    leave-stay k d =
+        let y = x .with-all k in
+        let same = behind-same noJob left jobs kept i (x .some) (y .behind) in
+        let at : i ≡ kept = omega (arith, x .some) in
+        let rest = without n (drop (i + 1) (take count jobs)) in
+        let step : without n (drop i (take count jobs)) ≡ getD left i noJob ∷ rest =
+        ap (without n) (next ∙ ap (λ (j : Job). j ∷ drop (i + 1) (take count jobs)) (sym same)) ∙ without-other (getD left i noJob) _ d in
+        let here : without n (drop i (take count jobs)) ≡ getD left kept noJob ∷ rest = step ∙ ap (λ (m : ℕ). getD left m noJob ∷ rest) at in
+        record {
+          some = omega (arith, at);
+          looked = omega arith;
+          without-one = λ l. absurd (omega (arith, at));
+          with-all = λ _. kept-same noJob 128 _ jobs left kept rest (omega (arith, at)) (subst (Kept 128 _ jobs left kept) here y);
+        }
+
+    -- and it is left out.
+    pub leave-out : i ≤ kept → getD left i noJob .number ≡ n → Leaving n jobs count left kept (i + 1)
+    leave-out k e =
+        let y = x .with-all k in
+        let same = behind-same noJob left jobs kept i (x .some) (y .behind) in
+        let step : without n (drop i (take count jobs)) ≡ drop (i + 1) (take count jobs) =
+        ap (without n) (next ∙ ap (λ (j : Job). j ∷ drop (i + 1) (take count jobs)) (sym same)) ∙ without-its (getD left i noJob) _ e in
+        record {
+          some = omega (arith, x .some);
+          looked = omega arith;
+          without-one = λ _. subst (Kept 128 _ jobs left kept) step y;
+          with-all = λ l. absurd (omega (arith, x .some));
+        }
+
+  -- At the end the array has those without the number's in front, and is as it was behind them.
+  pub leave-end : (left : List Job) (kept i : ℕ) → count ≤ i → Leaving n jobs count left kept i
+      → (kept ≡ length (without n (take count jobs))) × (left ≡ without n (take count jobs) ++ drop kept jobs)
+  leave-end left kept i h x =
+      let none = front-none jobs count i (omega arith) h in
+      let whole : Kept 128 (without n (take count jobs)) jobs left kept [] = elim (decLt kept i) [
+        | yes k ↦ subst (Kept 128 _ jobs left kept) none (x .without-one k)
+        | no k ↦ subst (Kept 128 _ jobs left kept) (ap (without n) none ∙ without-nothing n) (x .with-all (omega (arith, k)))
+      ] in
+      kept-all 128 _ jobs left kept (omega (arith, x .some, x .looked)) whole

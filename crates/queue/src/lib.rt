@@ -1,12 +1,9 @@
-// Waiting jobs: a new one, where a number stands in a row of them, and the row without it. It knows jobs, and no farm.
-// What the functions mean is in specs/Model.antt, and what they promise by place in specs/Steps.antt.
+// Waiting jobs: the empty one and a new one. It knows jobs, and no farm. What is said of jobs by their numbers is in specs/Model.antt; the
+// loops that look for a number stand where the jobs are, in the planner, since a function that took the jobs would copy them.
 ghost use mathlib.Core.List.{[]};
 ghost use mathlib.Core.Path.{_≡_};
-ghost use Prim.Native.Nat.{_≤_, _<_};
-ghost use lib.ListN.{take};
 ghost use Rattle.booking.specs.Model.{bookingOf};
 ghost use Rattle.walk.specs.Model.{emptyJob};
-ghost use Rattle.queue.specs.Steps.{placeOf, closedUp};
 use booking::Booking;
 use walk::Job;
 
@@ -41,35 +38,4 @@ pub fn new_job(number: u64, show: u64, size: u32, compute: u32, deadline: u64) -
     job.compute = compute;
     job.deadline = deadline;
     job
-}
-
-// Where the job of a number stands among the first `count` jobs; `count` where none of them has it.
-pub fn place_of(jobs: [Job; 128], count: usize, number: u64) -> usize
-    requires { ⌜ count ≤ 128 ⌝ }
-    ensures { λ r. ⌜ r ≡ placeOf number (take count jobs) ⌝ }
-{
-    let mut i = 0;
-    while i < count {
-        let job = jobs[i];
-        if job.number == number {
-            return i;
-        }
-        i += 1;
-    }
-    i
-}
-
-// The first `count` jobs without the one at `place`: those behind it move up by one, so that all keep their order.
-pub fn closed_up(jobs: [Job; 128], count: usize, place: usize) -> [Job; 128]
-    requires { ⌜ (place < count) × (count ≤ 128) ⌝ }
-    ensures { λ r. ⌜ r ≡ closedUp jobs count place ⌝ }
-{
-    let mut left = jobs;
-    let mut i = place;
-    while i + 1 < count {
-        let next = left[i + 1];
-        left[i] = next;
-        i += 1;
-    }
-    left
 }
