@@ -2,8 +2,8 @@
 --   "The timetable memory lent to a call holds, after it, the lines of the answer at its front and its former
 --    contents everywhere else;"                                                       move-writes, shown-writes
 --   "after a refusal it is unchanged throughout, and so is the farm."                  open-keeps, call-keeps,
--- move-keeps,
---                                                                                      shown-keeps, quote-keeps
+--                                                                                      move-keeps, shown-keeps,
+--                                                                                      quote-keeps
 --   "This is so for all arguments and lengths, and every call ends,"                   the functions' contracts, which have no `requires`
 --   "refused exactly where the papers name a refusal and granted otherwise."           open-asks, offer-asks, quote-asks, withdraw-asks, move-asks,
 --                                                                                      shown-asks, account-asks
