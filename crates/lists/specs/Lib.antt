@@ -2,3 +2,5 @@
 pub mod Laws
 pub mod Keep
 pub mod Fronts
+pub mod Places
+pub mod Rows

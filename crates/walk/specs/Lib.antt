@@ -1,5 +1,6 @@
--- What a reader must believe is Model; the other files show what follows from it.
+-- What a reader must believe is Model, and of View its definitions; the other files show what follows from them.
 pub mod Model
+pub mod View
 pub mod Order
 pub mod Returning
 pub mod EndOfComputing
