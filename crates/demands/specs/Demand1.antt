@@ -30,7 +30,7 @@ use Rattle.walk.specs.Order.{by-start-perm}
 use Rattle.walk.specs.Model.{Computes}
 use Rattle.walk.specs.EndOfComputing.{job-computes}
 use Rattle.timetable.specs.Model.{chunkRow}
-use Rattle.planner.specs.declared.Farm.{Farm}
+use Rattle.planner.specs.Model.{Farm}
 use Rattle.answers.specs.declared.Offer.{Offer}
 use Rattle.planner.specs.Model.{greatest, between, costsWithin, linesOf, byStart, waitingOf, Sized}
 use Rattle.planner.specs.Passes.{passesOf}

@@ -16,7 +16,7 @@ use Rattle.walk.specs.declared.Job.{Job}
 use Rattle.walk.specs.declared.WalkTerms.{WalkTerms}
 use Rattle.walk.specs.declared.FreeTimes.{FreeTimes}
 use Rattle.walk.specs.declared.Chunk.{Chunk}
-use Rattle.planner.specs.declared.Farm.{Farm}
+use Rattle.planner.specs.Model.{Farm}
 use Rattle.answers.specs.declared.Offer.{Offer}
 use Rattle.planner.specs.Model.{greatest, mostHeld, between, costsWithin, finishOf, Span, linesOf, spansOf, spansOfAll, Sized, afters, waitingOf, freeTimesOf, walkTermsOf, freeTimesAfter, byDeadline, plan, Between}
 use Rattle.planner.specs.Passes.{passesOf}

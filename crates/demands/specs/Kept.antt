@@ -3,7 +3,7 @@ use mathlib.Core.Path.{_≡_, refl, ap, sym, subst, _∙_}
 use mathlib.Core.List.{List, [], _∷_}
 use Rattle.lists.specs.Laws.{All, all-join}
 use Rattle.limits.specs.declared.FarmCosts.{FarmCosts}
-use Rattle.planner.specs.declared.Farm.{Farm}
+use Rattle.planner.specs.Model.{Farm}
 use Rattle.answers.specs.declared.ComputeCost.{ComputeCost}
 use Rattle.answers.specs.declared.ComputeCost.the-variants.{Absent}
 use Rattle.answers.specs.declared.Offer.{Offer}

@@ -3,7 +3,7 @@ use mathlib.Core.Path.{_≡_, refl, ap, sym, _∙_}
 use mathlib.Core.List.{List, [], _∷_, _++_}
 use mathlib.Core.Bool.{Bool, true, false, cond, false≢true}
 use Rattle.lists.specs.Keep.{keep, answers-keep}
-use Rattle.planner.specs.declared.Farm.{Farm}
+use Rattle.planner.specs.Model.{Farm}
 use Rattle.answers.specs.declared.Offer.{Offer}
 use Rattle.planner.specs.Calls.{offerSaid, asQuote, quoteSaid}
 use Rattle.demands.specs.CallLists.{Call, offer, quote, withdraw, move, account, Noted, nothing, reply, handed, noted, History, note, run, callAnswers, noQuoteCall, callsWithoutQuotes, otherCallAnswers}

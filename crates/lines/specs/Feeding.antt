@@ -7,7 +7,7 @@ use native.Mathlib.Omega.{arith}
 use lib.Dec.{eqb}
 use lib.ListN.{length, take, drop, length-drop}
 use lib.Seq.{take-add, drop-drop, take-all}
-use Rattle.planner.specs.declared.Farm.{Farm}
+use Rattle.planner.specs.Model.{Farm}
 use Rattle.text.specs.Model.{newline}
 use Rattle.search.specs.Model.{this, before, nextPlace}
 use Rattle.lines.specs.Model.{answeredText, Pending, part, kept, ended, Fed, behind, feed}

@@ -2,7 +2,7 @@
 use mathlib.Core.Path.{_≡_, refl}
 use mathlib.Core.List.{[], _∷_}
 use Prim.Native.Nat.{ℕ}
-use Rattle.planner.specs.declared.Farm.{Farm}
+use Rattle.planner.specs.Model.{Farm}
 use Rattle.planner.specs.Calls.{offerAsked, offerSaid, offerFarm, quoteSaid}
 use Rattle.reading.specs.declared.Kind.the-variants as kind
 use Rattle.lines.specs.Model.{asked, answeredAs, answeredWith}

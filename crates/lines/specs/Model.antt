@@ -9,7 +9,7 @@ use Rattle.limits.specs.declared.FarmCosts.{FarmCosts}
 use Rattle.walk.specs.declared.Chunk.{Chunk}
 use Rattle.walk.specs.Model.{noChunk}
 use Rattle.timetable.specs.Model.{chunkRow}
-use Rattle.planner.specs.declared.Farm.{Farm}
+use Rattle.planner.specs.Model.{Farm}
 use Rattle.answers.specs.declared.ComputeCost.{ComputeCost}
 use Rattle.answers.specs.declared.ComputeCost.the-variants.{Absent, Given}
 use Rattle.answers.specs.declared.Offer.{Offer}

@@ -8,7 +8,7 @@ use borrow.Author.Tests.{le-leb, lt-leb, leb-true, ltb-true, lt-ltb}
 use lib.Dec.{leb, ltb}
 use lib.ListN.{length, take, length-append, length-take}
 use lib.Seq.{paste, take-paste, length-take-le}
-use Rattle.planner.specs.declared.Farm.{Farm}
+use Rattle.planner.specs.Model.{Farm}
 use Rattle.reading.specs.declared.Kind.the-variants as kind
 use Rattle.reading.specs.Model.{rowWith, rowOf}
 use Rattle.lines.specs.declared.Rest.{Rest}

@@ -11,7 +11,7 @@ use lib.Seq.{take-all, take-nil, take-at, length-take-le}
 use Rattle.limits.specs.declared.FarmCosts.{FarmCosts}
 use Rattle.walk.specs.declared.Chunk.{Chunk}
 use Rattle.walk.specs.Model.{noChunk}
-use Rattle.planner.specs.declared.Farm.{Farm}
+use Rattle.planner.specs.Model.{Farm}
 use Rattle.planner.specs.Calls.{Said, openSaid, openFarm, showsWithin}
 use Rattle.planner.specs.Clock.{moveSaid, moveFarm, moveLines}
 use Rattle.planner.specs.Call.{Call, offer, quote, withdraw, move, account, Noted, does, reply}

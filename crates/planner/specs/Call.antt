@@ -8,7 +8,7 @@ use lib.ListN.{length, getD, take}
 use Rattle.walk.specs.declared.Job.{Job}
 use Rattle.walk.specs.declared.Chunk.{Chunk}
 use Rattle.answers.specs.declared.Offer.{Offer}
-use Rattle.planner.specs.declared.Farm.{Farm}
+use Rattle.planner.specs.Model.{Farm}
 use Rattle.planner.specs.Calls.{Said, computeOf, planned, offerSaid, offerFarm, quoteSaid, withdrawSaid, withdrawFarm, accountSaid}
 use Rattle.planner.specs.Clock.{moveSaid, moveFarm, moveMemory}
 

@@ -7,7 +7,7 @@ use lib.Dec.{eqb}
 use lib.ListN.{length, drop}
 use lib.Seq.{take-at}
 use Rattle.walk.specs.declared.Chunk.{Chunk}
-use Rattle.planner.specs.declared.Farm.{Farm}
+use Rattle.planner.specs.Model.{Farm}
 use Rattle.planner.specs.Model.{waitingOf}
 use Rattle.planner.specs.Passes.{passesOf}
 use Rattle.planner.specs.Calls.{Said, Yes, Gone, Clock, granted, refused, hasNumber, ofNumber, planned, accepts, withPlan, yesOf, offerAsked, offerSaid, offerFarm, withdrawnFarm, withdrawSaid, withdrawFarm}

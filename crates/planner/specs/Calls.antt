@@ -11,19 +11,34 @@ use lib.ListN.{length, getD, replicate}
 use Rattle.limits.specs.declared.FarmCosts.{FarmCosts}
 use Rattle.booking.specs.Model.{bookingOf}
 use Rattle.walk.specs.declared.Job.{Job}
-use Rattle.planner.specs.declared.Farm.{Farm}
+use Rattle.planner.specs.declared.Farm as stored
 use Rattle.answers.specs.declared.Offer.{Offer}
 use Rattle.planner.specs.declared.Reply.{Reply}
-use Rattle.planner.specs.Model.{greatest, between, Between, allAtMost, costsWithin, emptyJob, waitingOf, walkTermsOf, freeTimesOf, byDeadline, plan, booksAll}
+use Rattle.planner.specs.Model.{Farm, meant, greatest, between, Between, allAtMost, costsWithin, emptyJob, waitingOf, walkTermsOf, freeTimesOf, byDeadline, plan, booksAll}
 use Rattle.planner.specs.Passes.{passesOf}
 use Rattle.planner.specs.Changes.{withQueue}
 
 -- ---- Replies
 
--- a reply says so and hands this farm back
-pub record Replies (r : Reply) (a : Said) (f : Farm) : Type 0 where
+-- a reply to a call on the farm f: it says so, and the farm that it hands back means this one. A refusal hands back the
+-- very farm that was given
+pub record Replies (f : stored.Farm) (r : Reply) (a : Said) (next : Farm) : Type 0 where
+  pub says : said (r .answer) ≡ a
+  pub hands : meant (r .farm) ≡ next
+  pub same : (a .number ≡ 0 → ⊥) → r .farm ≡ f
+
+-- a reply to a call that only tells: it says so, and hands back the very farm that was given
+pub record Tells (f : stored.Farm) (r : Reply) (a : Said) : Type 0 where
   pub says : said (r .answer) ≡ a
   pub hands : r .farm ≡ f
+
+-- a reply to an opening: it says so, and the farm that it hands back means this one, with 0 in every cell; so it is the
+-- same one each time
+pub record Opens (r : Reply) (a : Said) (next : Farm) : Type 0 where
+  pub says : said (r .answer) ≡ a
+  pub hands : meant (r .farm) ≡ next
+  pub nodes : r .farm .nodes ≡ replicate 8192 0
+  pub shares : r .farm .shares ≡ replicate 8192 0
 
 -- ---- Opening
 

@@ -1,11 +1,11 @@
 -- Opening, offers and accounts, question by question: what the functions of src/calls.rt need and promise each other.
-use mathlib.Core.Path.{_≡_, refl, ap, sym, _∙_}
+use mathlib.Core.Path.{_≡_, refl, ap, ap₂, sym, _∙_}
 use mathlib.Core.List.{List, [], _∷_, _++_}
-use mathlib.Core.Bool.{true, false, cond, _&&_}
+use mathlib.Core.Bool.{Bool, true, false, cond, _&&_}
 use Prim.Native.Nat.{ℕ, suc, _+_, _-_, _≤_, _<_}
 use native.Mathlib.Omega.{arith}
 use native.Mathlib.Numerals.{add-one}
-use borrow.Author.Tests.{ltb-true, leb-true}
+use borrow.Author.Tests.{ltb-true, leb-true, ne-eqb}
 use lib.Dec.{leb, ltb, eqb}
 use lib.ListN.{length, getD, take, drop, set, replicate}
 use lib.Seq.{take-suc-set, take-suc, drop-set-lt, drop-drop}
@@ -17,17 +17,18 @@ use Rattle.walk.specs.declared.Job.{Job}
 use Rattle.walk.specs.Order.{by-deadline-perm}
 use Rattle.walk.specs.WalkSteps.{Walkable, Ready}
 use Rattle.answers.specs.Steps.{asked-all}
-use Rattle.planner.specs.declared.Farm.{Farm}
+use Rattle.planner.specs.declared.Farm as stored
+use Rattle.planner.specs.declared.Opening.{Opening}
 use Rattle.answers.specs.declared.Offer.{Offer}
 use Rattle.planner.specs.declared.Reply.{Reply}
 use Rattle.planner.specs.declared.Decision.{Decision}
 use Rattle.answers.specs.declared.Question.{Question}
 use Rattle.answers.specs.declared.Question.the-variants as question
 use Rattle.answers.specs.declared.Answer.the-variants as answer
-use Rattle.planner.specs.Model.{greatest, between, costsWithin, defaultCosts, waitingOf, walkTermsOf, freeTimesOf, byDeadline}
+use Rattle.planner.specs.Model.{Farm, farmOf, meant, greatest, between, costsWithin, defaultCosts, waitingOf, walkTermsOf, freeTimesOf, byDeadline}
 use Rattle.planner.specs.Passes.{passesOf}
 use Rattle.planner.specs.PassesSteps.{passes-within, passes-jobs}
-use Rattle.planner.specs.Changes.{withJobs}
+use Rattle.planner.specs.Parts.{withEntries, newFigures, unopenedFigures, new-means, OpensFigures, decidedFigures, Decides}
 use Rattle.planner.specs.Calls.{Account, Said, said, granted, refused, numberOf, Replies, unopened, openedWith, showsWithin, openSaid, openFarm, heldBy, allowanceOf, accountSaid, computeOf, asksOffer, offerAsked, offerSaid, offerFarm, asQuote, quoteSaid}
 
 -- ---- Opening
@@ -41,38 +42,39 @@ copy-next n i xs ys h k p q l =
       rw (drop-set-lt (i + 1) ys i (getD xs i 0) (omega arith), ← drop-drop 1 i ys, q, e),
     )
 
-module _ (n : ℕ) (c : FarmCosts) (al : List ℕ) (r : Reply) where
-  -- Replies to an opening.
-  Opens : Type 0
-  Opens = Replies r (openSaid n c al) (openFarm n c al)
-
-  not-opened : (q : Question) → r ≡ record { answer = answer.No q; farm = unopened } → openSaid n c al ≡ refused (numberOf q) → openFarm n c al ≡ unopened
-      → Replies r (openSaid n c al) (openFarm n c al)
-  not-opened q e s f = record { says = ap (λ (x : Reply). said (x .answer)) e ∙ sym s; hands = ap (λ (x : Reply). x .farm) e ∙ sym f }
+module _ (n : ℕ) (c : FarmCosts) (al : List ℕ) (r : Opening) where
+  not-opened : (q : Question) → r ≡ record { answer = answer.No q; figures = unopenedFigures } → openSaid n c al ≡ refused (numberOf q) → openFarm n c al ≡ unopened
+      → OpensFigures r (openSaid n c al) (openFarm n c al)
+  not-opened q e s f = record {
+    says = ap (λ (x : Opening). said (x .answer)) e ∙ sym s;
+    means = λ ks xs. ap (λ (x : Opening). farmOf (x .figures) ks xs) e ∙ new-means false 0 _ [] ks xs ∙ sym f;
+  }
 
   -- Refused with 1: the nodes.
-  pub no-nodes : (q : Question) → numberOf q ≡ 1 → r ≡ record { answer = answer.No q; farm = unopened } → between 1 n 64 ≡ false → Replies r (openSaid n c al) (openFarm n c al)
+  pub no-nodes : (q : Question) → numberOf q ≡ 1 → r ≡ record { answer = answer.No q; figures = unopenedFigures } → between 1 n 64 ≡ false → OpensFigures r (openSaid n c al) (openFarm n c al)
   unfolding openSaid openFarm
   no-nodes q m e a = not-opened q e (rw (a, m)) (rw a)
 
   -- Refused with 2: the costs.
-  pub no-costs : (q : Question) → numberOf q ≡ 2 → r ≡ record { answer = answer.No q; farm = unopened } → between 1 n 64 ≡ true → costsWithin c ≡ false
-      → Replies r (openSaid n c al) (openFarm n c al)
+  pub no-costs : (q : Question) → numberOf q ≡ 2 → r ≡ record { answer = answer.No q; figures = unopenedFigures } → between 1 n 64 ≡ true → costsWithin c ≡ false
+      → OpensFigures r (openSaid n c al) (openFarm n c al)
   unfolding openSaid openFarm
   no-costs q m e a b = not-opened q e (rw (a, b, m)) (rw (a, b))
 
   -- Refused with 3: the shows.
-  pub no-shows : (q : Question) → numberOf q ≡ 3 → r ≡ record { answer = answer.No q; farm = unopened } → between 1 n 64 ≡ true → costsWithin c ≡ true → showsWithin al ≡ false
-      → Replies r (openSaid n c al) (openFarm n c al)
+  pub no-shows : (q : Question) → numberOf q ≡ 3 → r ≡ record { answer = answer.No q; figures = unopenedFigures } → between 1 n 64 ≡ true → costsWithin c ≡ true → showsWithin al ≡ false
+      → OpensFigures r (openSaid n c al) (openFarm n c al)
   unfolding openSaid openFarm
   no-shows q m e a b d = not-opened q e (rw (a, b, d, m)) (rw (a, b, d))
 
   -- Granted.
-  pub opens : r ≡ record { answer = answer.Open n (length al); farm = openedWith n c al } → between 1 n 64 ≡ true → costsWithin c ≡ true → showsWithin al ≡ true
-      → Replies r (openSaid n c al) (openFarm n c al)
+  pub opens : r ≡ record { answer = answer.Open n (length al); figures = newFigures true n c al } → between 1 n 64 ≡ true → costsWithin c ≡ true → showsWithin al ≡ true
+      → OpensFigures r (openSaid n c al) (openFarm n c al)
   unfolding openSaid openFarm
-  opens e a b d =
-      record { says = ap (λ (x : Reply). said (x .answer)) e ∙ rw (a, b, d); hands = ap (λ (x : Reply). x .farm) e ∙ rw (a, b, d) }
+  opens e a b d = record {
+    says = ap (λ (x : Opening). said (x .answer)) e ∙ rw (a, b, d);
+    means = λ ks xs. ap (λ (x : Opening). farmOf (x .figures) ks xs) e ∙ new-means true n c al ks xs ∙ rw (a, b, d);
+  }
 
 -- ---- Accounts
 
@@ -107,32 +109,35 @@ module _ (f : Farm) (o : Offer) where
       → (ltb (f .clock) (o .deadline) && leb (o .deadline) greatest) ≡ true → (ltb (f .waiting) 128 && ltb (f .used) greatest) ≡ true → offerAsked f o ≡ 0
   asked-none a b c p e g = sym (asked-passed (computeOf f o) 0 a refl (sym (asked-all (f .shows) (f .clock) (f .waiting) (f .used) o (computeOf f o) b c p e g)))
 
-  -- Refused at a question before the walk: the farm as it was.
-  pub offer-refused : (r : Reply) (q : Question) → r ≡ record { answer = answer.No q; farm = f } → offerAsked f o ≡ numberOf q → eqb (numberOf q) 0 ≡ false
-      → Replies r (offerSaid f o) (offerFarm f o)
-  unfolding offerSaid offerFarm
-  offer-refused r q e a n =
-      record { says = ap (λ (x : Reply). said (x .answer)) e ∙ rw (a, n); hands = ap (λ (x : Reply). x .farm) e ∙ rw (a, n) }
-
 -- A quote of a farm that does not pass is refused with 11.
 pub quote-unsound : (f : Farm) (o : Offer) → passesOf f ≡ false → quoteSaid f o ≡ refused 11
 unfolding quoteSaid offerSaid
 quote-unsound f o e = let s : offerSaid f o ≡ refused 11 = rw (asked-farm f o e) in ap asQuote s
 
--- ---- Calls that decide about the waiting jobs
+-- ---- Replies
 
--- the farm with a decision carried out
-abbrev pub decidedFarm : Farm → Decision → Farm
-decidedFarm f d = cond (d .granted) (withJobs f (d .used) (d .waiting) (d .jobs)) f
+-- A refusal that hands back the farm, where the call is refused so and hands the farm back.
+pub refuses : (f : stored.Farm) (r : Reply) (q : Question) (s : Said) (next : Farm) → r ≡ record { answer = answer.No q; farm = f } → s ≡ refused (numberOf q) → meant f ≡ next → Replies f r s next
+refuses f r q s next e n m = record {
+  says = ap (λ (x : Reply). said (x .answer)) e ∙ sym n;
+  hands = ap (λ (x : Reply). meant (x .farm)) e ∙ m;
+  same = λ _. ap (λ (x : Reply). x .farm) e;
+}
 
--- a decision on the farm f says so, and carried out it is this farm
-pub record Decides (f : Farm) (s : Said) (next : Farm) (d : Decision) : Type 0 where
-  pub says : said (d .answer) ≡ s
-  pub hands : decidedFarm f d ≡ next
-
--- Its reply says so and hands that farm back.
-pub decides-replies : (f : Farm) (s : Said) (next : Farm) (d : Decision) (r : Reply) → r ≡ record { answer = d .answer; farm = decidedFarm f d } → Decides f s next d → Replies r s next
-decides-replies f s next d r e x = record { says = ap (λ (y : Reply). said (y .answer)) e ∙ x .says; hands = ap (λ (y : Reply). y .farm) e ∙ x .hands }
+-- The reply of a decision.
+pub decides-replies : (f : stored.Farm) (s : Said) (next : Farm) (d : Decision) (ks xs : List ℕ) (r : Reply)
+    → r ≡ record { answer = d .answer; farm = record { figures = decidedFigures (f .figures) d; nodes = ks; shares = xs } }
+    → Decides (f .figures) (f .nodes) (f .shares) s next d ks xs → Replies f r s next
+decides-replies f s next d ks xs r e x = record {
+  says = ap (λ (y : Reply). said (y .answer)) e ∙ x .says;
+  hands = ap (λ (y : Reply). meant (y .farm)) e ∙ x .hands;
+  same = λ h.
+      let no : d .granted ≡ false = x .granted ∙ ne-eqb (s .number) 0 h in
+      let rows = x .same no in
+      ap (λ (y : Reply). y .farm) e
+      ∙ ap (λ (b : Bool). record { figures = cond b (withEntries (f .figures) (d .used) (d .waiting) (d .jobs)) (f .figures); nodes = ks; shares = xs }) no
+      ∙ ap₂ (λ (p q : List ℕ). record { figures = f .figures; nodes = p; shares = q }) (rows .0) (rows .1);
+}
 
 -- ---- What the functions of an offer promise each other
 

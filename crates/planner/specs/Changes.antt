@@ -9,7 +9,7 @@ use lib.Seq.{take-at}
 use Rattle.lists.specs.Laws.{All, all-append, all-join}
 use Rattle.walk.specs.declared.Job.{Job}
 use Rattle.walk.specs.declared.FreeTimes.{FreeTimes}
-use Rattle.planner.specs.declared.Farm.{Farm}
+use Rattle.planner.specs.Model.{Farm}
 use Rattle.planner.specs.Model.{greatest, mostHeld, JobSized, Sized, waitingOf}
 use Rattle.planner.specs.Passes.{Within}
 

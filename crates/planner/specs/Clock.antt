@@ -10,7 +10,7 @@ use lib.Dec.{leb, eqb}
 use lib.ListN.{length, drop}
 use Rattle.walk.specs.declared.Job.{Job}
 use Rattle.walk.specs.declared.Chunk.{Chunk}
-use Rattle.planner.specs.declared.Farm.{Farm}
+use Rattle.planner.specs.Model.{Farm}
 use Rattle.planner.specs.Model.{greatest, between, afters, byStart, waitingOf, freeTimesOf}
 use Rattle.planner.specs.Passes.{passesOf}
 use Rattle.planner.specs.Changes.{withQueue, atTime}

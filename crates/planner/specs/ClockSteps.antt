@@ -1,5 +1,5 @@
 -- A clock move and showing, question by question: what the functions of src/clock.rt need and promise each other.
-use mathlib.Core.Path.{_≡_, refl, ap, sym, subst, _∙_}
+use mathlib.Core.Path.{_≡_, refl, ap, ap₂, sym, subst, _∙_}
 use mathlib.Core.List.{List, [], _∷_, _++_, Permᴰ·symm}
 use mathlib.Core.Bool.{Bool, true, false, cond, not}
 use Prim.Native.Nat.{ℕ, suc, _-_, _≤_, _<_}
@@ -7,7 +7,7 @@ use native.Mathlib.Omega.{arith}
 use borrow.Author.Tests.{leb-true, le-leb, lt-leb, eqb-true, eq-eqb, ne-eqb}
 use lib.Dec.{leb, eqb}
 use lib.ListN.{length, getD, take, drop, take-append-drop, length-map}
-use lib.Seq.{take-at, length-take-le}
+use lib.Seq.{take-at, length-take-le, getD-take}
 use Rattle.lists.specs.Laws.{All, all-map, all-both, all-front, all-take, perm-all, perm-length}
 use Rattle.limits.specs.declared.FarmCosts.{FarmCosts}
 use Rattle.booking.specs.Best.{chosen}
@@ -25,17 +25,19 @@ use Rattle.lists.specs.Keep.{keep-all, keep-none, keep-every}
 use Rattle.limits.specs.Model.{CostsWithin}
 use Rattle.limits.specs.Says.{between-is}
 use Rattle.soundness.specs.Sound.{JobKept}
-use Rattle.planner.specs.declared.Farm.{Farm}
+use Rattle.planner.specs.declared.Farm as stored
+use Rattle.planner.specs.declared.Reply.{Reply}
 use Rattle.answers.specs.declared.Question.{Question}
 use Rattle.answers.specs.declared.Question.the-variants as question
 use Rattle.answers.specs.declared.Answer.the-variants as answer
 use Rattle.planner.specs.declared.Move.{Move}
 use Rattle.planner.specs.declared.clock.Issue.{Issue}
-use Rattle.planner.specs.Model.{greatest, mostHeld, between, Between, noJob, afters, inOrder, byStart, waitingOf, freeTimesOf, JobSized, Sized}
+use Rattle.planner.specs.Model.{Farm, meant, greatest, mostHeld, between, Between, noJob, afters, inOrder, byStart, waitingOf, freeTimesOf, JobSized, Sized}
 use Rattle.planner.specs.Passes.{passesOf, boundsOf, JobWithin}
 use Rattle.planner.specs.PassesSteps.{passes-within, passes-jobs}
 use Rattle.planner.specs.Changes.{withJobs, atTime}
-use Rattle.planner.specs.Calls.{Clock, Shown, said, numberOf, granted, Replies}
+use Rattle.planner.specs.Calls.{Clock, Shown, said, numberOf, granted, Replies, Tells}
+use Rattle.planner.specs.CallsSteps.{refuses}
 use Rattle.planner.specs.Clock.{keep, startsBy, startsAfter, linesOfAll, raised, begun, waitingOn, issued, movedFarm, moveAsked, moveSaid, moveFarm, moveMemory, moveLines, shown, shownAsked, shownSaid, shownMemory, shownLines}
 
 -- what questions 11, 9 and 10 ask, all answered yes
@@ -99,9 +101,9 @@ module _ (f : Farm) (n : ℕ) where
 -- ---- In order of start
 
 -- The waiting jobs in order of start, at the front of an array.
-pub ordered-front : (f : Farm) (ordered : List Job) → Sized f → f .waiting ≤ 128 → ordered ≡ byStart (waitingOf f) ++ drop (f .waiting) (f .jobs) → take (f .waiting) ordered ≡ byStart (waitingOf f)
-ordered-front f ordered sized w o =
-    ap (take (f .waiting)) o ∙ take-at (byStart (waitingOf f)) (drop (f .waiting) (f .jobs)) (f .waiting)
+pub ordered-front : (f : Farm) (js ordered : List Job) → Sized f → f .waiting ≤ 128 → take (f .waiting) js ≡ waitingOf f → ordered ≡ byStart (take (f .waiting) js) ++ drop (f .waiting) js → take (f .waiting) ordered ≡ byStart (waitingOf f)
+ordered-front f js ordered sized w e o =
+    ap (take (f .waiting)) (o ∙ ap (λ (l : List Job). byStart l ++ drop (f .waiting) js) e) ∙ take-at (byStart (waitingOf f)) (drop (f .waiting) js) (f .waiting)
     (sym (perm-length (by-start-perm (waitingOf f))) ∙ length-take-le (f .waiting) (f .jobs) (omega (arith, sized .jobs)))
 
 -- ---- Jobs that wait
@@ -251,59 +253,76 @@ pub record LinesDue (c : FarmCosts) (ls : List Chunk) (room : ℕ) (r : Issue) :
   pub lines : linesOfAll c (take (r .count) (r .jobs)) ≡ ls
   pub fits : length ls ≤ room
 
--- what a call that is stopped comes to: nothing is due
-abbrev pub stoppedBy : Farm → Question → Issue
-stoppedBy f q = record { count = 0; jobs = f .jobs; reply = record { answer = answer.No q; farm = f } }
-
-none-due : (c : FarmCosts) (n : ℕ) (f : Farm) (q : Question) → LinesDue c [] n (stoppedBy f q)
+none-due : (c : FarmCosts) (n : ℕ) (r : Issue) → r .count ≡ 0 → LinesDue c [] n r
 unfolding linesOfAll
-none-due c n f q = record { few = omega arith; sends = tt; lines = refl; fits = omega arith }
+none-due c n r e = record {
+  few = omega arith;
+  sends = subst (λ (k : ℕ). All (Sendable c) (take k (r .jobs))) (sym e) tt;
+  lines = subst (λ (k : ℕ). linesOfAll c (take k (r .jobs)) ≡ []) (sym e) refl;
+  fits = omega arith;
+}
 
-pub record MoveIssues (f : Farm) (t n : ℕ) (r : Issue) : Type 0 where
-  pub replies : Replies (r .reply) (moveSaid f t n) (moveFarm f t n)
-  pub due : LinesDue (f .costs) (moveLines f t n) n r
+-- a call that is stopped at a question hands back the very farm, and nothing is due
+pub record Stops (f : stored.Farm) (q : Question) (r : Issue) : Type 0 where
+  pub none : r .count ≡ 0
+  pub reply : r .reply ≡ record { answer = answer.No q; farm = f }
+
+pub record MoveIssues (f : stored.Farm) (t n : ℕ) (r : Issue) : Type 0 where
+  pub replies : Replies f (r .reply) (moveSaid (meant f) t n) (moveFarm (meant f) t n)
+  pub due : LinesDue (meant f .costs) (moveLines (meant f) t n) n r
 
 -- A move that is stopped at a question writes nothing.
-pub move-stops : (f : Farm) (t n m : ℕ) (q : Question) (r : Issue) → r ≡ stoppedBy f q → moveAsked f t n ≡ suc m → numberOf q ≡ suc m → MoveIssues f t n r
+pub move-stops : (f : stored.Farm) (t n m : ℕ) (q : Question) (r : Issue) → Stops f q r → moveAsked (meant f) t n ≡ suc m → numberOf q ≡ suc m → MoveIssues f t n r
 unfolding moveSaid moveFarm
 move-stops f t n m q r e a b =
-    let z = ne-eqb (moveAsked f t n) 0 (λ h. omega (arith, a)) in
-    subst (MoveIssues f t n) (sym e) (record {
-      replies = record { says = rw (z, a, b); hands = rw z };
-      due = subst (λ (l : List Chunk). LinesDue (f .costs) l n (stoppedBy f q)) (sym (ap (λ (x : Bool). cond x (issued f t) []) z)) (none-due (f .costs) n f q);
-    })
+    let z = ne-eqb (moveAsked (meant f) t n) 0 (λ h. omega (arith, a)) in
+    record {
+      replies = refuses f (r .reply) q (moveSaid (meant f) t n) (moveFarm (meant f) t n) (e .reply) (rw (z, a, b)) (rw z);
+      due = subst (λ (l : List Chunk). LinesDue (meant f .costs) l n r) (sym (ap (λ (x : Bool). cond x (issued (meant f) t) []) z)) (none-due (meant f .costs) n r (e .none));
+    }
+
+move-number : (f : Farm) (t n : ℕ) → eqb (moveAsked f t n) 0 ≡ true → moveSaid f t n .number ≡ 0
+unfolding moveSaid
+move-number f t n e = rw e
 
 -- A move that is granted writes the lines of what begins.
-pub move-goes : (f : Farm) (t n : ℕ) (r : Move) (jobs : List Job) (next : Farm) → Sized f → passesOf f ≡ true → MoveDecides f t n r → r .granted ≡ true → take (r .due .count) jobs ≡ inOrder (f .jobs) (take (r .due .count) (r .due .keys))
-    → next ≡ movedFarm f t → MoveIssues f t n (record { count = r .due .count; jobs = jobs; reply = record { answer = r .answer; farm = next } })
+pub move-goes : (f : stored.Farm) (t n : ℕ) (r : Move) (jobs : List Job) (next : stored.Farm) → Sized (meant f) → passesOf (meant f) ≡ true → MoveDecides (meant f) t n r → r .granted ≡ true → take (r .due .count) jobs ≡ inOrder (meant f .jobs) (take (r .due .count) (r .due .keys))
+    → meant next ≡ movedFarm (meant f) t → MoveIssues f t n (record { count = r .due .count; jobs = jobs; reply = record { answer = r .answer; farm = next } })
 move-goes f t n r jobs next sized e x g q m =
-    let b : Begins f t (r .due) = record { passes = e; due = x .due } in
-    let k = move-taken f t n r x g in
+    let b : Begins (meant f) t (r .due) = record { passes = e; due = x .due } in
+    let k = move-taken (meant f) t n r x g in
     record {
-      replies = record { says = x .says; hands = m ∙ sym (k .0) };
+      replies = record { says = x .says; hands = m ∙ sym (k .0); same = λ h. absurd (h (move-number (meant f) t n (sym (x .granted) ∙ g))) };
       due = record {
-        few = begins-few f t (r .due) sized b;
-        sends = subst (All (Sendable (f .costs))) (sym q) (begins-sends f t (r .due) sized b);
-        lines = ap (linesOfAll (f .costs)) q ∙ begins-lines f t (r .due) sized b ∙ sym (k .1);
+        few = begins-few (meant f) t (r .due) sized b;
+        sends = subst (All (Sendable (meant f .costs))) (sym q) (begins-sends (meant f) t (r .due) sized b);
+        lines = ap (linesOfAll (meant f .costs)) q ∙ begins-lines (meant f) t (r .due) sized b ∙ sym (k .1);
         fits = subst (λ (l : List Chunk). length l ≤ n) (sym (k .1)) (k .2);
       };
     }
 
+-- Keys name the same jobs in two lists that begin alike.
+named-alike : (n : ℕ) (one other : List Job) (ks : List Key) → n ≤ length one → n ≤ length other → take n one ≡ take n other → All (λ (k : Key). k .place < n) ks → inOrder one ks ≡ inOrder other ks
+named-alike n one other [] h l e p = refl
+named-alike n one other (k ∷ ks) h l e p =
+    ap₂ _∷_ (sym (getD-take n one (k .place) noJob (p .0)) ∙ ap (λ (js : List Job). getD js (k .place) noJob) e ∙ getD-take n other (k .place) noJob (p .0)) (named-alike n one other ks h l e (p .1))
+
 -- The jobs that are due, at the front of an array.
-pub due-front : (f : Farm) (t : ℕ) (d : Due) (js : List Job) → Sized f → Begins f t d → js ≡ inOrder (f .jobs) (take (d .count) (d .keys)) ++ drop (d .count) (f .jobs)
+pub due-front : (f : Farm) (t : ℕ) (d : Due) (all js : List Job) → Sized f → Begins f t d → length all ≡ 128 → take (f .waiting) all ≡ waitingOf f → js ≡ inOrder all (take (d .count) (d .keys)) ++ drop (d .count) all
     → take (d .count) js ≡ inOrder (f .jobs) (take (d .count) (d .keys))
-due-front f t d js sized x e =
-    ap (take (d .count)) e ∙ take-at (inOrder (f .jobs) (take (d .count) (d .keys))) (drop (d .count) (f .jobs)) (d .count)
-    (length-map (take (d .count) (d .keys)) (λ (k : Key). getD (f .jobs) (k .place) noJob) ∙ length-take-le (d .count) (d .keys) (omega (arith, begins-few f t d sized x, x .due .whole)))
+due-front f t d all js sized x full front e =
+    ap (take (d .count)) e ∙ take-at (inOrder all (take (d .count) (d .keys))) (drop (d .count) all) (d .count)
+    (length-map (take (d .count) (d .keys)) (λ (k : Key). getD all (k .place) noJob) ∙ length-take-le (d .count) (d .keys) (omega (arith, begins-few f t d sized x, x .due .whole)))
+    ∙ named-alike (f .waiting) all (f .jobs) (take (d .count) (d .keys)) (omega (arith, waiting-few f sized (x .passes))) (omega (arith, waiting-few f sized (x .passes), sized .jobs)) front (x .due .places)
 
 -- One that is refused writes nothing.
-pub move-stays : (f : Farm) (t n : ℕ) (r : Move) (jobs : List Job) → MoveDecides f t n r → r .granted ≡ false
+pub move-stays : (f : stored.Farm) (t n : ℕ) (r : Move) (jobs : List Job) → MoveDecides (meant f) t n r → r .granted ≡ false
     → MoveIssues f t n (record { count = 0; jobs = jobs; reply = record { answer = r .answer; farm = f } })
 unfolding linesOfAll
 move-stays f t n r jobs x g =
-    let k = move-refused f t n r x g in
+    let k = move-refused (meant f) t n r x g in
     record {
-      replies = record { says = x .says; hands = sym (k .0) };
+      replies = record { says = x .says; hands = sym (k .0); same = λ _. refl };
       due = record { few = omega arith; sends = tt; lines = sym (k .1); fits = subst (λ (l : List Chunk). length l ≤ n) (sym (k .1)) (omega arith) };
     }
 
@@ -380,18 +399,18 @@ module _ (c : FarmCosts) (ls : List Chunk) (n : ℕ) (r : Issue) (x : LinesDue c
 
 -- ---- Showing, worked out
 
-pub record ShowIssues (f : Farm) (n : ℕ) (r : Issue) : Type 0 where
-  pub replies : Replies (r .reply) (shownSaid f n) f
-  pub due : LinesDue (f .costs) (shownLines f n) n r
+pub record ShowIssues (f : stored.Farm) (n : ℕ) (r : Issue) : Type 0 where
+  pub replies : Tells f (r .reply) (shownSaid (meant f) n)
+  pub due : LinesDue (meant f .costs) (shownLines (meant f) n) n r
 
-pub show-stops : (f : Farm) (n m : ℕ) (q : Question) (r : Issue) → r ≡ stoppedBy f q → shownAsked f n ≡ suc m → numberOf q ≡ suc m → ShowIssues f n r
+pub show-stops : (f : stored.Farm) (n m : ℕ) (q : Question) (r : Issue) → Stops f q r → shownAsked (meant f) n ≡ suc m → numberOf q ≡ suc m → ShowIssues f n r
 unfolding shownSaid
 show-stops f n m q r e a b =
-    let z = ne-eqb (shownAsked f n) 0 (λ h. omega (arith, a)) in
-    subst (ShowIssues f n) (sym e) (record {
-      replies = record { says = rw (z, a, b); hands = refl };
-      due = subst (λ (l : List Chunk). LinesDue (f .costs) l n (stoppedBy f q)) (sym (ap (λ (x : Bool). cond x (shown f) []) z)) (none-due (f .costs) n f q);
-    })
+    let z = ne-eqb (shownAsked (meant f) n) 0 (λ h. omega (arith, a)) in
+    record {
+      replies = record { says = ap (λ (y : Reply). said (y .answer)) (e .reply) ∙ rw (z, a, b); hands = ap (λ (y : Reply). y .farm) (e .reply) };
+      due = subst (λ (l : List Chunk). LinesDue (meant f .costs) l n r) (sym (ap (λ (x : Bool). cond x (shown (meant f)) []) z)) (none-due (meant f .costs) n r (e .none));
+    }
 
 -- The lines that are shown are as many as the waiting bookings' chunks.
 pub shown-lines : (f : Farm) (ordered : List Job) → take (f .waiting) ordered ≡ byStart (waitingOf f) → All (CanBegin f) (take (f .waiting) ordered)
@@ -409,19 +428,19 @@ shown-fits f n a = go (passesOf f) (leb (length (shown f)) n) refl a
     go false b e h = absurd (omega arith)
 
 -- Showing that is granted writes the lines of every waiting booking.
-pub show-goes : (f : Farm) (n : ℕ) (ordered : List Job) (lines : ℕ) → f .waiting ≤ 128 → take (f .waiting) ordered ≡ byStart (waitingOf f) → All (CanBegin f) (take (f .waiting) ordered)
-    → shownAsked f n ≡ 0 → lines ≡ chunks (take (f .waiting) ordered)
-    → ShowIssues f n (record { count = f .waiting; jobs = ordered; reply = record { answer = answer.Shown lines; farm = f } })
+pub show-goes : (f : stored.Farm) (n : ℕ) (ordered : List Job) (lines : ℕ) → meant f .waiting ≤ 128 → take (meant f .waiting) ordered ≡ byStart (waitingOf (meant f)) → All (CanBegin (meant f)) (take (meant f .waiting) ordered)
+    → shownAsked (meant f) n ≡ 0 → lines ≡ chunks (take (meant f .waiting) ordered)
+    → ShowIssues f n (record { count = meant f .waiting; jobs = ordered; reply = record { answer = answer.Shown lines; farm = f } })
 unfolding shownSaid
 show-goes f n ordered lines w o h a e =
-    let z = eq-eqb (shownAsked f n) 0 a in
+    let z = eq-eqb (shownAsked (meant f) n) 0 a in
     record {
-      replies = record { says = rw z (ap (λ (i : ℕ). granted Shown (i ∷ [])) (e ∙ sym (shown-lines f ordered o h))); hands = refl };
+      replies = record { says = rw z (ap (λ (i : ℕ). granted Shown (i ∷ [])) (e ∙ sym (shown-lines (meant f) ordered o h))); hands = refl };
       due = record {
         few = w;
-        sends = can-begin-sends f (take (f .waiting) ordered) h;
-        lines = ap (linesOfAll (f .costs)) o ∙ sym (ap (λ (b : Bool). cond b (shown f) []) z);
-        fits = subst (λ (x : List Chunk). length x ≤ n) (sym (ap (λ (b : Bool). cond b (shown f) []) z)) (shown-fits f n a);
+        sends = can-begin-sends (meant f) (take (meant f .waiting) ordered) h;
+        lines = ap (linesOfAll (meant f .costs)) o ∙ sym (ap (λ (b : Bool). cond b (shown (meant f)) []) z);
+        fits = subst (λ (x : List Chunk). length x ≤ n) (sym (ap (λ (b : Bool). cond b (shown (meant f)) []) z)) (shown-fits (meant f) n a);
       };
     }
 

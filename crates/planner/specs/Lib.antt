@@ -5,6 +5,7 @@ pub mod Passes
 pub mod Changes
 pub mod PassesSteps
 pub mod Calls
+pub mod Parts
 pub mod CallsSteps
 pub mod OfferSteps
 pub mod WithdrawSteps

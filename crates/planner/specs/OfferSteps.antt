@@ -23,7 +23,7 @@ use Rattle.walk.specs.WalkSteps.{Ready, Walked, books-feasible}
 use Rattle.queue.specs.Numbers.{numberOfJob, has-number}
 use Rattle.queue.specs.Steps.{placeOf, place-job, has-place}
 use Rattle.answers.specs.Steps.{no-number}
-use Rattle.planner.specs.declared.Farm.{Farm}
+use Rattle.planner.specs.Model.{Farm}
 use Rattle.answers.specs.declared.Offer.{Offer}
 use Rattle.answers.specs.declared.Question.{Question}
 use Rattle.answers.specs.declared.Question.the-variants as question

@@ -11,7 +11,7 @@ use lib.Dec.{leb}
 use lib.ListN.{take}
 use Rattle.lists.specs.Laws.{All}
 use Rattle.soundness.specs.declared.JobBounds.{JobBounds}
-use Rattle.planner.specs.declared.Farm.{Farm}
+use Rattle.planner.specs.Model.{Farm}
 use Rattle.planner.specs.Model.{greatest, mostHeld, between, allAtMost, costsWithin, waitingOf, freeTimesOf, walkTermsOf, Between}
 
 -- ---- The test

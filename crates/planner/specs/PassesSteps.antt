@@ -8,7 +8,7 @@ use Rattle.limits.specs.Tests.{and-both}
 use Rattle.walk.specs.declared.Job.{Job}
 use Rattle.soundness.specs.Model.{jobsPass, allDiffer}
 use Rattle.soundness.specs.Sound.{Usable, JobKept, says-jobs}
-use Rattle.planner.specs.declared.Farm.{Farm}
+use Rattle.planner.specs.Model.{Farm}
 use Rattle.planner.specs.Model.{greatest, mostHeld, waitingOf, freeTimesOf}
 use Rattle.planner.specs.Passes.{countsWithin, timesWithin, boundsOf, jobNumbers, waitingPass, passesOf, JobWithin, Within}
 

@@ -1,21 +1,15 @@
 // The farm: opening, offers, quotes, withdrawals, clock moves, showing and accounts. Each call takes the farm as a value and hands the next
 // one back. What each call means is in specs/Calls.antt and specs/Clock.antt.
-mod calls;
-mod clock;
-mod offers;
-mod passing;
-mod quote;
-mod withdraw;
 
 use answers::Answer;
 use limits::FarmCosts;
 use timetable::Due;
 use walk::Chunk;
-use walk::Job;
+use walk::QueueEntry;
 
-// The farm. The first `shows` allowances and held ticks, the first `nodes` free times and the first `waiting` jobs
-// are its figures; the cells past them are not looked at.
-pub struct Farm {
+// The figures of a farm: all but the cells of its bookings. The first `shows` allowances and held ticks, the first `nodes`
+// free times and the first `waiting` jobs count; what stands past them is not looked at.
+pub struct Figures {
     pub opened: bool,
     pub nodes: usize,
     pub costs: FarmCosts,
@@ -27,7 +21,16 @@ pub struct Farm {
     pub free: [u64; 64],
     pub used: u64,
     pub waiting: usize,
-    pub jobs: [Job; 128],
+    pub jobs: [QueueEntry; 128],
+}
+
+// The farm: its figures, and for each chunk of a waiting booking its node and its share, those of the job at place i from
+// cell i × 64 on. A function that works on a farm takes the figures by value and is lent the cells, so that a caller who
+// keeps the three apart copies no cell; a method takes its farm apart and puts it together again.
+pub struct Farm {
+    pub figures: Figures,
+    pub nodes: [u8; 8192],
+    pub shares: [u32; 8192],
 }
 
 // An answer, with the farm that is handed back.
@@ -36,14 +39,21 @@ pub struct Reply {
     pub farm: Farm,
 }
 
+// What an opening comes to: its answer, and the figures of the farm. It uses no cell.
+pub struct Opening {
+    pub answer: Answer,
+    pub figures: Figures,
+}
+
 // What a call that decides which jobs wait comes to: whether it is granted, its answer and, where it is granted, the
-// count of numbers used then and the first `waiting` of these jobs, which wait then.
+// count of numbers used then and the first `waiting` of these jobs, which wait then; the cells of their bookings are in
+// the lent rows.
 pub struct Decision {
     pub granted: bool,
     pub answer: Answer,
     pub used: u64,
     pub waiting: usize,
-    pub jobs: [Job; 128],
+    pub jobs: [QueueEntry; 128],
 }
 
 // What a clock move comes to before its lines are written: whether it is granted, its answer, and what begins.
@@ -57,4 +67,14 @@ pub struct Move {
 pub struct Timetable {
     pub reply: Reply,
     pub lines: [Chunk; 1024],
+}
+
+pub mod clock {
+    use crate::Reply;
+    use walk::Job;
+    pub struct Issue {
+        pub count: usize,
+        pub jobs: [Job; 128],
+        pub reply: Reply,
+    }
 }

@@ -7,7 +7,7 @@ use native.Mathlib.Omega.{arith}
 use borrow.Author.Tests.{leb-true, leb-false}
 use lib.Dec.{leb, eqb}
 use lib.ListN.{length}
-use Rattle.planner.specs.declared.Farm.{Farm}
+use Rattle.planner.specs.Model.{Farm}
 use Rattle.planner.specs.Calls.{unopened}
 use Rattle.text.specs.Model.{newline}
 use Rattle.reading.specs.Model.{onFirst}

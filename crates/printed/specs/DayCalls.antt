@@ -12,7 +12,7 @@ use lib.ListN.{length, getD, replicate}
 use Rattle.limits.specs.declared.FarmCosts.{FarmCosts}
 use Rattle.walk.specs.declared.Chunk.{Chunk}
 use Rattle.walk.specs.Model.{noChunk}
-use Rattle.planner.specs.declared.Farm.{Farm}
+use Rattle.planner.specs.Model.{Farm}
 use Rattle.answers.specs.declared.Offer.{Offer}
 use Rattle.planner.specs.Model.{between, costsWithin}
 use Rattle.planner.specs.Calls.{SaidWord, Open, Yes, Clock, Shown, Account, Gone, Quote, No, Said, granted, refused, unopened, showsWithin, openSaid, offerSaid, quoteSaid}

@@ -8,7 +8,7 @@ use borrow.Author.Tests.{le-leb, lt-leb, leb-true}
 use lib.Seq.{length-take-le}
 use lib.Dec.{leb}
 use lib.ListN.{length, take}
-use Rattle.planner.specs.declared.Farm.{Farm}
+use Rattle.planner.specs.Model.{Farm}
 use Rattle.text.specs.Model.{newline}
 use Rattle.text.specs.Writing.{WroteWithin, wrote-none, wrote-same, wrote-join, wrote-length, within-same}
 use Rattle.search.specs.Model.{this, nextPlace}

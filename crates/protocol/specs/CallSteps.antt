@@ -13,7 +13,7 @@ use Rattle.walk.specs.Model.{inOrder}
 use Rattle.walk.specs.Chunks.{Sendable}
 use Rattle.timetable.specs.Model.{chunkRow, linesOfAll}
 use Rattle.timetable.specs.BeginSteps.{chunks}
-use Rattle.planner.specs.declared.Farm.{Farm}
+use Rattle.planner.specs.Model.{Farm}
 use Rattle.planner.specs.declared.Move.{Move}
 use Rattle.planner.specs.declared.Decision.{Decision}
 use Rattle.planner.specs.Changes.{withJobs}

@@ -11,7 +11,7 @@ use lib.ListN.{length}
 use Rattle.search.specs.Laws.{next-within}
 use Rattle.text.specs.Writing.{WroteWithin, within-same}
 use Rattle.reading.specs.declared.Row.{Row}
-use Rattle.planner.specs.declared.Farm.{Farm}
+use Rattle.planner.specs.Model.{Farm}
 use Rattle.planner.specs.declared.Move.{Move}
 use Rattle.planner.specs.declared.Decision.{Decision}
 use Rattle.planner.specs.Model.{Sized}
