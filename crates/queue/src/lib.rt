@@ -5,9 +5,10 @@ ghost use mathlib.Core.Path.{_≡_};
 ghost use Prim.Native.Nat.{_≤_, _<_};
 ghost use lib.ListN.{length, take};
 ghost use Rattle.lists.specs.Laws.{All};
-ghost use Rattle.lists.specs.Rows.{rowFrom, rowMoved, Alike};
+ghost use Rattle.lists.specs.Rows.{rowFrom, Alike};
 ghost use Rattle.walk.specs.Model.{emptyJob};
 ghost use Rattle.walk.specs.View.{jobsOf, noEntry, Short, useOf};
+ghost use Rattle.queue.specs.RowSteps.{MovedUp};
 use booking::Booking;
 use walk::Job;
 use walk::QueueEntry;
@@ -132,7 +133,7 @@ pub fn row_moved(
     count: usize,
 )
     requires { ⌜ (place < from) × (from < 128) × (count ≤ 64) × (length (now nodes) ≡ 8192) × (length (now shares) ≡ 8192) ⌝ }
-    ensures { λ _. ⌜ (now (nodes .exit) ≡ rowMoved 64 place from count (now (nodes .entry))) × (now (shares .exit) ≡ rowMoved 64 place from count (now (shares .entry))) × (length (now (nodes .exit)) ≡ 8192) × (length (now (shares .exit)) ≡ 8192) ⌝ }
+    ensures { λ _. ⌜ MovedUp place from count (now (nodes .entry)) (now (shares .entry)) (now (nodes .exit)) (now (shares .exit)) ⌝ }
 {
     let to = place * 64;
     let at = from * 64;
