@@ -5,7 +5,7 @@ use Prim.Native.Nat.{ℕ, _+_, _≤_, _<_}
 use native.Mathlib.Omega.{arith}
 use lib.ListN.{length, getD, take, drop, set, length-set}
 use Rattle.lists.specs.Laws.{All, all-front}
-use Rattle.lists.specs.Places.{each-length, each-get}
+use Rattle.lists.specs.Places.{each-get}
 use Rattle.lists.specs.Rows.{rowMoved}
 use Rattle.lists.specs.Fronts.{Kept, behind-same, kept-more}
 use Rattle.walk.specs.declared.Job.{Job}
@@ -43,7 +43,7 @@ count-few ks xs hs old count k i h l f g e a =
 -- ---- One entry moved
 
 module _ (ks xs ks′ xs′ : List ℕ) (hs : List QueueEntry) (k i n : ℕ) (h : k < i) (low : i < 128) (s : QueueSized ks xs hs) (its : n ≡ getD hs i noEntry .count) (few : n ≤ 64)
-  (m : MovedUp k i n ks xs ks′ xs′) where
+    (m : MovedUp k i n ks xs ks′ xs′) where
   pub sized-moved : QueueSized ks′ xs′ (set hs k (getD hs i noEntry))
   sized-moved = record { entries = length-set hs k (getD hs i noEntry) ∙ s .entries; nodes = m .2; shares = m .3 }
 
@@ -59,7 +59,7 @@ module _ (ks xs ks′ xs′ : List ℕ) (hs : List QueueEntry) (k i n : ℕ) (h 
 -- ---- The jobs without the one of a number
 
 module _ (number : ℕ) (jobs : List Job) (count : ℕ) (size : length jobs ≡ 128) (most : count ≤ 128) (ks xs : List ℕ) (hs : List QueueEntry) (kept i : ℕ) (h : i < count)
-  (s : QueueSized ks xs hs) (x : Leaving number jobs count (jobsOf ks xs hs) kept i) where
+    (s : QueueSized ks xs hs) (x : Leaving number jobs count (jobsOf ks xs hs) kept i) where
   there : getD (jobsOf ks xs hs) i noJob ≡ jobAt ks xs i (getD hs i noEntry)
   there = job-there ks xs hs i (omega (arith, s .entries))
 

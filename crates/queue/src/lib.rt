@@ -96,11 +96,11 @@ fn row_taken<'a>(
     ensures { λ _. ⌜ (now (nodes .exit) ≡ rowFrom 64 place count (now (nodes .entry)) (now («other_nodes» .entry))) × (now (shares .exit) ≡ rowFrom 64 place count (now (shares .entry)) (now («other_shares» .entry))) ⌝ }
 {
     let at = place * 64;
-    let mut i = 0;
-    while i < count {
-        nodes[at + i] = other_nodes[at + i];
-        shares[at + i] = other_shares[at + i];
-        i += 1;
+    let mut k = 0;
+    while k < count {
+        nodes[at + k] = other_nodes[at + k];
+        shares[at + k] = other_shares[at + k];
+        k += 1;
     }
 }
 

@@ -1,5 +1,5 @@
 -- `queue::row_moved` meets its contract.
-use mathlib.Core.Path.{_≡_, ap, sym, _∙_}
+use mathlib.Core.Path.{_≡_, ap, _∙_}
 use mathlib.Core.List.{List}
 use Prim.Native.Nat.{ℕ, _+_, _*_, _-_, _≤_, _<_}
 use native.Mathlib.Omega.{arith}
@@ -70,7 +70,7 @@ loop-again c =
     let to = a .place * 64 in
     let at = a .from * 64 in
     let p = s .pre in
-    let more : l .i < a .count = c .before .before .loop-test .taken in (
+    let more : l .i < a .count = omega (arith, c .before .before .loop-test .taken) in (
       omega arith,
       ap (λ (o : List ℕ). set o (to + l .i) (getD o (at + l .i) 0)) (l .inv .1) ∙ moved-next 64 (a .place) (a .from) (a .nodes .now) (λ q. omega (arith, p .0)) (omega (arith, p)) (omega (arith, p)) (l .i) 0 (omega (arith, p .2)),
       ap (λ (o : List ℕ). set o (to + l .i) (getD o (at + l .i) 0)) (l .inv .2) ∙ moved-next 64 (a .place) (a .from) (a .shares .now) (λ q. omega (arith, p .0)) (omega (arith, p)) (omega (arith, p)) (l .i) 0 (omega (arith, p .2)),

@@ -1,19 +1,19 @@
 -- `queue::row_taken` meets its contract.
-use mathlib.Core.Path.{_≡_, ap, sym, _∙_}
+use mathlib.Core.Path.{_≡_, ap, _∙_}
 use mathlib.Core.List.{List}
 use Prim.Native.Nat.{ℕ, _+_, _*_, _-_, _≤_, _<_}
 use native.Mathlib.Omega.{arith}
-use lib.ListN.{length, set, getD, drop}
+use lib.ListN.{set, getD, drop}
 use Rattle.lists.specs.Rows.{rowFrom, put-none, from-next}
 use borrow.Author.Needs.{needs}
 use Rattle.queue.proofs.row_taken.Statement.{statement}
 use Rattle.queue.proofs.row_taken.Tie as tie
 
 abbrev Inv-loop : tie.InvT-loop
-Inv-loop nodes₀ shares₀ other-nodes other-shares place count at i₀ nodes shares i = (i ≤ count) × (nodes ≡ rowFrom 64 place i nodes₀ other-nodes) × (shares ≡ rowFrom 64 place i shares₀ other-shares)
+Inv-loop nodes₀ shares₀ other-nodes other-shares place count at k₀ nodes shares k = (k ≤ count) × (nodes ≡ rowFrom 64 place k nodes₀ other-nodes) × (shares ≡ rowFrom 64 place k shares₀ other-shares)
 
 abbrev μ-loop : tie.MeasureT-loop
-μ-loop nodes₀ shares₀ other-nodes other-shares place count at i₀ nodes shares i = count - i
+μ-loop nodes₀ shares₀ other-nodes other-shares place count at k₀ nodes shares k = count - k
 
 mul-at : tie.Need-mul-at Inv-loop μ-loop
 mul-at c = search needs
@@ -53,8 +53,8 @@ mul-shares-2 c = search needs
 element-write-shares : tie.Need-element-write-shares Inv-loop μ-loop
 element-write-shares c = search needs
 
-add-i : tie.Need-add-i Inv-loop μ-loop
-add-i c = search needs
+add-k : tie.Need-add-k Inv-loop μ-loop
+add-k c = search needs
 
 loop-less : tie.Need-loop-less Inv-loop μ-loop
 loop-less c = search needs
@@ -65,18 +65,18 @@ loop-again c =
     let a = s .args in
     let l = c .before .before .before .loop in
     let at = a .place * 64 in
-    let more : l .i < a .count = c .before .before .loop-test .taken in (
+    let more : l .k < a .count = omega (arith, c .before .before .loop-test .taken) in (
       omega arith,
-      ap (λ (o : List ℕ). set o (at + l .i) (getD (a .other-nodes .now) (at + l .i) 0)) (l .inv .1) ∙ from-next 64 (a .place) (l .i) (a .nodes .now) (a .other-nodes .now) 0 (omega (arith, s .pre)) (omega (arith, s .pre)),
-      ap (λ (o : List ℕ). set o (at + l .i) (getD (a .other-shares .now) (at + l .i) 0)) (l .inv .2) ∙ from-next 64 (a .place) (l .i) (a .shares .now) (a .other-shares .now) 0 (omega (arith, s .pre)) (omega (arith, s .pre)),
+      ap (λ (o : List ℕ). set o (at + l .k) (getD (a .other-nodes .now) (at + l .k) 0)) (l .inv .1) ∙ from-next 64 (a .place) (l .k) (a .nodes .now) (a .other-nodes .now) 0 (omega (arith, s .pre)) (omega (arith, s .pre)),
+      ap (λ (o : List ℕ). set o (at + l .k) (getD (a .other-shares .now) (at + l .k) 0)) (l .inv .2) ∙ from-next 64 (a .place) (l .k) (a .shares .now) (a .other-shares .now) 0 (omega (arith, s .pre)) (omega (arith, s .pre)),
     )
 
 returns : tie.Need-returns Inv-loop μ-loop
 returns c =
     let a = c .before .before .args in
     let l = c .before .loop in
-    let e : l .i ≡ a .count = omega arith in
-    (l .inv .1 ∙ ap (λ (k : ℕ). rowFrom 64 (a .place) k (a .nodes .now) (a .other-nodes .now)) e, l .inv .2 ∙ ap (λ (k : ℕ). rowFrom 64 (a .place) k (a .shares .now) (a .other-shares .now)) e)
+    let e : l .k ≡ a .count = omega arith in
+    (l .inv .1 ∙ ap (λ (n : ℕ). rowFrom 64 (a .place) n (a .nodes .now) (a .other-nodes .now)) e, l .inv .2 ∙ ap (λ (n : ℕ). rowFrom 64 (a .place) n (a .shares .now) (a .other-shares .now)) e)
 
 pub row-taken-spec : {M : Type 1} → statement M
 row-taken-spec =
@@ -96,7 +96,7 @@ row-taken-spec =
     add-shares-2
     mul-shares-2
     element-write-shares
-    add-i
+    add-k
     loop-less
     loop-again
     returns)

@@ -1,8 +1,8 @@
 -- `queue::rows_taken` meets its contract.
-use mathlib.Core.Path.{_≡_, subst, sym, _∙_}
-use Prim.Native.Nat.{ℕ, _+_, _*_, _-_, _≤_, _<_}
+use mathlib.Core.Path.{_≡_, subst, _∙_}
+use Prim.Native.Nat.{ℕ, _-_, _≤_, _<_}
 use native.Mathlib.Omega.{arith}
-use lib.ListN.{length, getD}
+use lib.ListN.{length}
 use Rattle.lists.specs.Laws.{all-front}
 use Rattle.lists.specs.Rows.{Alike, alike-none, alike-next}
 use Rattle.walk.specs.View.{noEntry, Short, useOf}
