@@ -1,6 +1,6 @@
-// Waiting jobs: the empty one and a new one, jobs put together with their cells, and the rows of cells taken over or moved
-// with them. It knows jobs, and no farm. What is said of jobs by their numbers is in specs/Model.antt; the loops that look
-// for a number stand where the jobs are, in the planner, since a function that took the jobs would copy them.
+// Waiting jobs: the empty one and a new one, jobs put together with their cells, and the rows of cells taken over or
+// moved with them. It knows jobs, and no farm. What is said of jobs by their numbers is in specs/Model.antt; the loops
+// that look for a number stand where the jobs are, in the planner, since a function that took the jobs would copy them.
 ghost use mathlib.Core.Path.{_≡_};
 ghost use Prim.Native.Nat.{_≤_, _<_};
 ghost use lib.ListN.{length, take};
