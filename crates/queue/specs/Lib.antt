@@ -2,3 +2,4 @@
 pub mod Model
 pub mod Numbers
 pub mod Steps
+pub mod RowSteps
