@@ -5,7 +5,7 @@ use Prim.Native.Nat.{ℕ, _+_, _*_, _-_, _≤_, _<_}
 use native.Mathlib.Omega.{arith}
 use lib.ListN.{length, getD, take, drop}
 use Rattle.limits.specs.Model.{mostHeld}
-use Rattle.lists.specs.Laws.{front-next, front-none}
+use Rattle.lists.specs.Laws.{front-none}
 use Rattle.limits.specs.declared.FarmCosts.{FarmCosts}
 use Rattle.keys.specs.declared.Key.{Key}
 use Rattle.keys.specs.Model.{noKey}
@@ -16,7 +16,7 @@ use Rattle.walk.specs.Chunks.{Sendable}
 use Rattle.timetable.specs.Model.{linesOfAll, raised}
 use Rattle.timetable.specs.BeginSteps.{Raises, RaisesAll, afters-append}
 use Rattle.timetable.specs.HeldSteps.{job-most, raised-append, raised-length}
-use Rattle.timetable.specs.LinesSteps.{named-all}
+use Rattle.timetable.specs.LinesSteps.{named-next, named-all}
 
 -- where the loop over the first n keys stands at key i: the jobs left leave what all of them leave of the first free times and cells, and each job
 -- passed has added at most 64 times the greatest tick
@@ -26,30 +26,27 @@ pub record Beginning (c : FarmCosts) (jobs : List Job) (keys : List Key) (n : �
   pub ticks : raised held (linesOfAll c (inOrder jobs (take n keys))) ≡ raised cells (linesOfAll c (inOrder jobs (drop i (take n keys))))
   pub most : (k : ℕ) → getD cells k 0 ≤ getD held k 0 + i * mostHeld
 
-module _ (c : FarmCosts) (jobs : List Job) (keys : List Key) (n i : ℕ) (h : i < n) (f : n ≤ length keys) (first : FreeTimes) (held : List ℕ) (times : FreeTimes) (cells : List ℕ) (x : Beginning c jobs keys n first held times cells i) where
-  abbrev named : Job
-  named = getD jobs (getD keys i noKey .place) noJob
-
+module _ (c : FarmCosts) (jobs : List Job) (keys : List Key) (n i : ℕ) (h : i < n) (f : n ≤ length keys) (j : Job) (q : getD jobs (getD keys i noKey .place) noJob ≡ j) (first : FreeTimes) (held : List ℕ) (times : FreeTimes) (cells : List ℕ) (x : Beginning c jobs keys n first held times cells i) where
   -- A job that comes behind fewer than 128 others can begin.
-  pub beginning-raises : n ≤ 128 → RaisesAll c held (inOrder jobs (take n keys)) → Raises c cells named
+  pub beginning-raises : n ≤ 128 → RaisesAll c held (inOrder jobs (take n keys)) → Raises c cells j
   beginning-raises m r =
-      let room = named-all (λ (j : Job). getD held (j .show - 1) 0 ≤ mostHeld) jobs keys n i h f (r .room) in
+      let room = named-all keys n i h f jobs j q (λ (a : Job). getD held (a .show - 1) 0 ≤ mostHeld) (r .room) in
       record {
-        sends = named-all (Sendable c) jobs keys n i h f (r .sends);
-        show = named-all (λ (j : Job). (1 ≤ j .show) × (j .show ≤ 32)) jobs keys n i h f (r .shows);
-        room = omega (arith, room, x .most (named .show - 1));
+        sends = named-all keys n i h f jobs j q (Sendable c) (r .sends);
+        show = named-all keys n i h f jobs j q (λ (a : Job). (1 ≤ a .show) × (a .show ≤ 32)) (r .shows);
+        room = omega (arith, room, x .most (j .show - 1));
       }
 
   -- It has begun, and the others come next.
-  pub beginning-next : Sendable c named → Beginning c jobs keys n first held (afters times (linesOf c named)) (raised cells (linesOf c named)) (i + 1)
+  pub beginning-next : Sendable c j → Beginning c jobs keys n first held (afters times (linesOf c j)) (raised cells (linesOf c j)) (i + 1)
   unfolding linesOfAll
   beginning-next s =
-      let next = front-next noKey keys n i h f in
+      let next = named-next keys n i h f jobs j q in
       record {
-        size = raised-length cells (linesOf c named) ∙ x .size;
-        after = x .after ∙ rw next (afters-append times (linesOf c named) _);
-        ticks = x .ticks ∙ rw next (raised-append cells (linesOf c named) _);
-        most = λ k. omega (arith, x .most k, job-most c cells named k s);
+        size = raised-length cells (linesOf c j) ∙ x .size;
+        after = x .after ∙ rw next (afters-append times (linesOf c j) _);
+        ticks = x .ticks ∙ rw next (raised-append cells (linesOf c j) _);
+        most = λ k. omega (arith, x .most k, job-most c cells j k s);
       }
 
 -- At the end all have begun.

@@ -96,15 +96,12 @@ pub record Finding (jobs : List Job) (n t : ℕ) (first keys : List Key) (count 
   pub few : count ≤ i
   pub most : lines ≤ 64 * i
 
-module _ (jobs : List Job) (n i t : ℕ) (h : i < n) (m : n ≤ 128) (f : n ≤ length jobs) (first keys : List Key) (count lines : ℕ) (x : Finding jobs n t first keys count lines i) where
-  abbrev job : Job
-  job = getD jobs i noJob
-
+module _ (jobs : List Job) (n i t : ℕ) (h : i < n) (m : n ≤ 128) (f : n ≤ length jobs) (job : Job) (q : getD jobs i noJob ≡ job) (first keys : List Key) (count lines : ℕ) (x : Finding jobs n t first keys count lines i) where
   abbrev later : List Job
   later = drop (i + 1) (take n jobs)
 
   next : drop i (take n jobs) ≡ job ∷ later
-  next = front-next noJob jobs n i h f
+  next = front-next noJob jobs n i h f ∙ ap (λ (j : Job). j ∷ later) q
 
   -- The job starts by t: its key and its lines are added.
   pub finding-begins : job .booking .count ≤ 64 → job .booking .start ≤ t

@@ -1,5 +1,5 @@
 -- Lines in lent memory, one by one: what the functions of src/lines.rt promise each other.
-use mathlib.Core.Path.{_≡_, refl, ap, sym, _∙_}
+use mathlib.Core.Path.{_≡_, refl, ap, sym, subst, _∙_}
 use mathlib.Core.List.{List, [], _∷_, _++_, map, append-assoc}
 use Prim.Native.Nat.{ℕ, suc, _+_, _-_, _≤_, _<_}
 use native.Mathlib.Omega.{arith}
@@ -10,14 +10,17 @@ use Rattle.limits.specs.declared.FarmCosts.{FarmCosts}
 use Rattle.keys.specs.declared.Key.{Key}
 use Rattle.keys.specs.Model.{noKey}
 use Rattle.walk.specs.declared.Job.{Job}
+use Rattle.walk.specs.declared.QueueEntry.{QueueEntry}
 use Rattle.walk.specs.declared.Chunk.{Chunk}
 use Rattle.walk.specs.declared.ChunkTerms.{ChunkTerms}
 use Rattle.walk.specs.Model.{noJob, chunkTerms, chunkOn, chunkAt, chunksFrom, linesOf, inOrder}
+use Rattle.walk.specs.View.{jobAt, jobsOf, noEntry}
+use Rattle.walk.specs.OrderSteps.{PlacesWithin}
 use Rattle.walk.specs.Chunks.{Sendable, linesFrom, lines-none, lines-next}
 use Rattle.booking.specs.declared.Booking.{Booking}
 use Rattle.booking.specs.Best.{chosen, units}
 use Rattle.timetable.specs.Model.{linesOfAll, chunkRow}
-use Rattle.timetable.specs.BeginSteps.{chunks}
+use Rattle.timetable.specs.BeginSteps.{chunks, jobs-get}
 
 -- memory of which the first n records stand, then come these lines, and from place e on it is what it is
 abbrev pub Filled : {A : Type 0} → List A → ℕ → List A → ℕ → List A
@@ -119,7 +122,30 @@ pub chunks-none : (jobs : List Job) (n k : ℕ) → n ≤ k → n ≤ length job
 unfolding chunks
 chunks-none jobs n k h f = ap chunks (front-none jobs n k f h)
 
--- ---- The jobs that keys name, as rows
+-- ---- The jobs that keys name
+
+-- The first n keys, of which key k comes next.
+module _ (keys : List Key) (n k : ℕ) (h : k < n) (f : n ≤ length keys) where
+  abbrev place : ℕ
+  place = getD keys k noKey .place
+
+  pub place-within : PlacesWithin (take n keys) → place < 128
+  place-within a = all-front noKey (λ (x : Key). x .place < 128) keys n k h f a
+
+  -- Of a queue it names an entry with its row.
+  pub named-entry : (ks xs : List ℕ) (hs : List QueueEntry) → length hs ≡ 128 → PlacesWithin (take n keys) → getD (jobsOf ks xs hs) place noJob ≡ jobAt ks xs place (getD hs place noEntry)
+  named-entry ks xs hs l a = jobs-get ks xs hs place (omega (arith, place-within a))
+
+  module _ (jobs : List Job) (j : Job) (q : getD jobs place noJob ≡ j) where
+    -- The job that it names is followed by those of the keys after it.
+    pub named-next : inOrder jobs (drop k (take n keys)) ≡ j ∷ inOrder jobs (drop (k + 1) (take n keys))
+    named-next = ap (inOrder jobs) (front-next noKey keys n k h f) ∙ ap (λ (a : Job). a ∷ inOrder jobs (drop (k + 1) (take n keys))) q
+
+    -- What holds of all named jobs holds of it.
+    pub named-all : (P : Job → Type 0) → All P (inOrder jobs (take n keys)) → P j
+    named-all P a = subst P q (all-front noKey (λ (x : Key). P (getD jobs (x .place) noJob)) keys n k h f (image-all P (λ (x : Key). getD jobs (x .place) noJob) (take n keys) a))
+
+-- ---- Their lines, as rows
 
 -- where the loop over the first n keys stands at key k, with `at` rows written: those left fill the memory to what all make of the first
 pub record Writing (c : FarmCosts) (jobs : List Job) (keys : List Key) (n : ℕ) (first rows : List (List ℕ)) (at k : ℕ) : Type 0 where
@@ -128,33 +154,27 @@ pub record Writing (c : FarmCosts) (jobs : List Job) (keys : List Key) (n : ℕ)
       ≡ Filled rows at (map chunkRow (linesOfAll c (inOrder jobs (drop k (take n keys))))) (chunks (inOrder jobs (take n keys)))
   pub left : at + chunks (inOrder jobs (drop k (take n keys))) ≡ chunks (inOrder jobs (take n keys))
 
-module _ (c : FarmCosts) (jobs : List Job) (keys : List Key) (n k : ℕ) (h : k < n) (f : n ≤ length keys) (first rows : List (List ℕ)) (at : ℕ) (x : Writing c jobs keys n first rows at k) where
-  abbrev named : Job
-  named = getD jobs (getD keys k noKey .place) noJob
-
-  -- Its lines have room.
-  pub writing-room : at + named .booking .count ≤ chunks (inOrder jobs (take n keys))
+module _ (c : FarmCosts) (jobs : List Job) (keys : List Key) (n k : ℕ) (h : k < n) (f : n ≤ length keys) (j : Job) (q : getD jobs (getD keys k noKey .place) noJob ≡ j) (first rows : List (List ℕ)) (at : ℕ) (x : Writing c jobs keys n first rows at k) where
+  -- The next job's lines have room.
+  pub writing-room : at + j .booking .count ≤ chunks (inOrder jobs (take n keys))
   unfolding chunks
-  writing-room =
-      let e : chunks (inOrder jobs (drop k (take n keys))) ≡ named .booking .count + chunks (inOrder jobs (drop (k + 1) (take n keys))) = rw (front-next noKey keys n k h f) in
-      omega (arith, x .left)
+  writing-room = omega (arith, x .left, ap chunks (named-next keys n k h f jobs j q))
 
   -- They are written, and those of the others come next.
-  pub writing-next : Sendable c named → chunks (inOrder jobs (take n keys)) ≤ length first
-      → Writing c jobs keys n first (Filled rows at (map chunkRow (linesOf c named)) (at + named .booking .count)) (at + named .booking .count) (k + 1)
+  pub writing-next : Sendable c j → chunks (inOrder jobs (take n keys)) ≤ length first
+      → Writing c jobs keys n first (Filled rows at (map chunkRow (linesOf c j)) (at + j .booking .count)) (at + j .booking .count) (k + 1)
   unfolding linesOfAll chunks
   writing-next s fits =
       let size = x .size in
       let room = writing-room in
       let rest = inOrder jobs (drop (k + 1) (take n keys)) in
-      let next = front-next noKey keys n k h f in
-      let many : length (map chunkRow (linesOf c named)) ≡ named .booking .count = length-map (linesOf c named) chunkRow ∙ job-lines c named s in
-      let e : chunks (inOrder jobs (drop k (take n keys))) ≡ named .booking .count + chunks rest = rw next in
-      let split : map chunkRow (linesOfAll c (inOrder jobs (drop k (take n keys)))) ≡ map chunkRow (linesOf c named) ++ map chunkRow (linesOfAll c rest) = rw next (map-join chunkRow (linesOf c named) (linesOfAll c rest)) in
+      let next = named-next keys n k h f jobs j q in
+      let many : length (map chunkRow (linesOf c j)) ≡ j .booking .count = length-map (linesOf c j) chunkRow ∙ job-lines c j s in
+      let split : map chunkRow (linesOfAll c (inOrder jobs (drop k (take n keys)))) ≡ map chunkRow (linesOf c j) ++ map chunkRow (linesOfAll c rest) = rw next (map-join chunkRow (linesOf c j) (linesOfAll c rest)) in
       record {
-        size = filled-length rows (map chunkRow (linesOf c named)) at (named .booking .count) many (omega arith) ∙ size;
-        same = x .same ∙ rw split (filled-more rows (map chunkRow (linesOf c named)) (map chunkRow (linesOfAll c rest)) at (named .booking .count) (chunks (inOrder jobs (take n keys))) many room (omega arith));
-        left = omega (arith, x .left, e);
+        size = filled-length rows (map chunkRow (linesOf c j)) at (j .booking .count) many (omega arith) ∙ size;
+        same = x .same ∙ rw split (filled-more rows (map chunkRow (linesOf c j)) (map chunkRow (linesOfAll c rest)) at (j .booking .count) (chunks (inOrder jobs (take n keys))) many room (omega arith));
+        left = omega (arith, x .left, ap chunks next);
       }
 
 -- At the end all rows are written.
@@ -166,8 +186,3 @@ writing-all c jobs keys n k first rows at h f x =
     let e : at + 0 ≡ chunks (inOrder jobs (take n keys)) = rw none at (x .left) in
     let g : at ≡ chunks (inOrder jobs (take n keys)) = omega arith in
     sym (x .same ∙ rw (none, g) (filled-all rows (chunks (inOrder jobs (take n keys)))))
-
--- What holds of all named jobs holds of each.
-pub named-all : (P : Job → Type 0) (jobs : List Job) (keys : List Key) (n k : ℕ) → k < n → n ≤ length keys → All P (inOrder jobs (take n keys)) → P (getD jobs (getD keys k noKey .place) noJob)
-named-all P jobs keys n k h f a =
-    all-front noKey (λ (x : Key). P (getD jobs (x .place) noJob)) keys n k h f (image-all P (λ (x : Key). getD jobs (x .place) noJob) (take n keys) a)
