@@ -1,7 +1,12 @@
 // The farm: opening, offers, quotes, withdrawals, clock moves, showing and accounts. Each call takes the farm as a value and hands the next
 // one back. What each call means is in specs/Calls.antt and specs/Clock.antt.
 
+mod calls;
+mod passing;
+
 use answers::Answer;
+pub use calls::account_unchecked;
+pub use calls::open_figures;
 use limits::FarmCosts;
 use timetable::Due;
 use walk::Chunk;
@@ -72,6 +77,7 @@ pub struct Timetable {
 pub mod clock {
     use crate::Reply;
     use walk::Job;
+
     pub struct Issue {
         pub count: usize,
         pub jobs: [Job; 128],
