@@ -91,12 +91,11 @@ pub fn raise<'a>(
     ensures { λ _. ⌜ now (held .exit) ≡ raised (now (held .entry)) (linesOf costs (jobAt (now (nodes .entry)) (now (shares .entry)) place job)) ⌝ }
 {
     let at = place * 64;
-    let count = job.count;
     let cell = (job.show - 1) as usize;
     let terms = entry_terms(costs, job);
     let mut last = job.start;
     let mut i = 0;
-    while i < count {
+    while i < job.count {
         let chunk = chunk_on(terms, nodes[at + i], shares[at + i], last);
         held[cell] = held[cell] + difference(chunk.finish, chunk.start);
         last = chunk.sent;
