@@ -26,8 +26,8 @@ pub struct Begun {
     pub held: [u64; 32],
 }
 
-// Of the first `waiting` jobs those that start by `time`. One pass, so that a move that begins nothing sorts nothing. It
-// reads no cell, so what it says holds whatever the rows hold.
+// Of the first `waiting` jobs those that start by `time`. One pass, so that a move that begins nothing sorts nothing.
+// It reads no cell, so what it promises holds whatever the rows hold.
 pub fn due(jobs: [QueueEntry; 128], waiting: usize, time: u64) -> Due
     requires { ⌜ (waiting ≤ 128) × All Short (take waiting jobs) ⌝ }
     ensures { λ r. ⌜ ((ks xs : List ℕ) → IsDue (jobsOf ks xs jobs) waiting time r) ⌝ }
@@ -77,8 +77,8 @@ pub fn line_count(jobs: [Job; 128], count: usize) -> usize
     lines
 }
 
-// Raises the held ticks of the show of the job at a place: each of its chunks adds its finish minus the start of its own
-// send.
+// Raises the held ticks of the show of the job at a place: each of its chunks adds its finish minus the start of its
+// own send.
 pub fn raise<'a>(
     costs: FarmCosts,
     job: QueueEntry,
@@ -91,12 +91,11 @@ pub fn raise<'a>(
     ensures { λ _. ⌜ now (held .exit) ≡ raised (now (held .entry)) (linesOf costs (jobAt (now (nodes .entry)) (now (shares .entry)) place job)) ⌝ }
 {
     let at = place * 64;
-    let count = job.count;
     let cell = (job.show - 1) as usize;
     let terms = entry_terms(costs, job);
     let mut last = job.start;
     let mut i = 0;
-    while i < count {
+    while i < job.count {
         let chunk = chunk_on(terms, nodes[at + i], shares[at + i], last);
         held[cell] = held[cell] + difference(chunk.finish, chunk.start);
         last = chunk.sent;

@@ -66,8 +66,8 @@ pub fn write_lines(out: &mut [Chunk], costs: FarmCosts, jobs: [Job; 128], count:
     }
 }
 
-// Writes the lines of the job at a place from row `at` on, each as a row of the record's eight numbers. It takes a slice,
-// since a lent array's length is known to the proof only where the array is made one.
+// Writes the lines of the job at a place from row `at` on, each as a row of the record's eight numbers. It takes a
+// slice, since a lent array's length is known to the proof only where the array is made one.
 fn write_row_job<'a>(
     rows: &mut [[u64; 8]],
     at: usize,
@@ -102,8 +102,8 @@ fn write_row_job<'a>(
     }
 }
 
-// Writes the lines of the jobs that the first `count` keys name to the front of 1,024 records, each a row of the record's
-// eight numbers.
+// Writes the lines of the jobs that the first `count` keys name to the front of 1,024 records, each a row of the
+// record's eight numbers.
 pub fn write_rows<'a>(
     rows: &mut [[u64; 8]; 1024],
     costs: FarmCosts,

@@ -1,10 +1,9 @@
--- `timetable::begin::due` meets its contract: the keys and the lines of the jobs passed that start by the time, whatever the rows hold.
+-- `timetable::begin::due` meets its contract: the jobs passed that start by the time, whatever the rows hold.
 use mathlib.Core.Path.{refl}
 use mathlib.Core.List.{List, []}
 use mathlib.Core.Logic.{⊎-elim}
 use Prim.Native.Nat.{ℕ, _-_, _≤_}
 use native.Mathlib.Omega.{arith}
-use lib.ListN.{getD}
 use Rattle.lists.specs.Laws.{all-front}
 use Rattle.lists.specs.Places.{each-length}
 use Rattle.walk.specs.View.{jobAt, jobsOf, noEntry, Short}

@@ -11,10 +11,10 @@ use Rattle.timetable.proofs.begin.raise.Statement.{statement}
 use Rattle.timetable.proofs.begin.raise.Tie as tie
 
 abbrev Inv-loop : tie.InvT-loop
-Inv-loop nodes shares place held₀ at count cell terms last₀ i₀ held last i = (i ≤ count) × Raising terms (bookingAt nodes shares place last₀ count) cell held₀ held last i
+Inv-loop job nodes shares place held₀ at cell terms last₀ i₀ held last i = (i ≤ job .count) × Raising terms (bookingAt nodes shares place last₀ (job .count)) cell held₀ held last i
 
 abbrev μ-loop : tie.MeasureT-loop
-μ-loop nodes shares place held₀ at count cell terms last₀ i₀ held last i = count - i
+μ-loop job nodes shares place held₀ at cell terms last₀ i₀ held last i = job .count - i
 
 mul-at : tie.Need-mul-at Inv-loop μ-loop
 mul-at c = search needs
@@ -33,25 +33,26 @@ loop-holds c =
     (omega arith, record { same = refl; ends = ends-all (a .costs) (jobAt (a .nodes .now) (a .shares .now) (a .place) (a .job)) (s .pre .3 .sends) (w .result) (w .ensures); most = omega arith })
 
 add-chunk-on : tie.Need-add-chunk-on Inv-loop μ-loop
-add-chunk-on c = let s = c .before .before .before .before in omega (arith, s .pre .0, s .pre .3 .sends .few)
+add-chunk-on c = let s = c .before .before .before .before .before in omega (arith, s .pre .0, s .pre .3 .sends .few)
 
 element-copy-out-chunk-on : tie.Need-element-copy-out-chunk-on Inv-loop μ-loop
-element-copy-out-chunk-on c = let s = c .before .before .before .before in omega (arith, s .pre .0, s .pre .1, s .pre .3 .sends .few)
+element-copy-out-chunk-on c = let s = c .before .before .before .before .before in omega (arith, s .pre .0, s .pre .1, s .pre .3 .sends .few)
 
 add-chunk-on-2 : tie.Need-add-chunk-on-2 Inv-loop μ-loop
-add-chunk-on-2 c = let s = c .before .before .before .before .before in omega (arith, s .pre .0, s .pre .3 .sends .few)
+add-chunk-on-2 c = let s = c .before .before .before .before .before .before in omega (arith, s .pre .0, s .pre .3 .sends .few)
 
 mul-chunk-on : tie.Need-mul-chunk-on Inv-loop μ-loop
-mul-chunk-on c = let s = c .before .before .before .before .before in omega (arith, s .pre .0, s .pre .3 .sends .few)
+mul-chunk-on c = let s = c .before .before .before .before .before .before in omega (arith, s .pre .0, s .pre .3 .sends .few)
 
 element-copy-out-chunk-on-2 : tie.Need-element-copy-out-chunk-on-2 Inv-loop μ-loop
-element-copy-out-chunk-on-2 c = let s = c .before .before .before .before .before in omega (arith, s .pre .0, s .pre .2, s .pre .3 .sends .few)
+element-copy-out-chunk-on-2 c = let s = c .before .before .before .before .before .before in omega (arith, s .pre .0, s .pre .2, s .pre .3 .sends .few)
 
 chunk-on-requires : tie.Need-chunk-on-requires Inv-loop μ-loop
 chunk-on-requires c κs =
-    let l = c .before .before .before .loop in
-    let w = c .before .before .before .before .entry-terms in
-    let s = c .before .before .before .before .before .before in
+    let t = c .before .before .before .before in
+    let l = t .loop in
+    let w = t .before .entry-terms in
+    let s = t .before .before .before in
     let a = s .args in
     chunk-fits (a .costs) (jobAt (a .nodes .now) (a .shares .now) (a .place) (a .job)) (s .pre .3 .sends) (w .result) (w .ensures) (l .i) (l .last) (l .inv .1 .ends)
 
@@ -67,11 +68,11 @@ difference-requires c κs = search needs
 add-held : tie.Need-add-held Inv-loop μ-loop
 add-held c =
     let t = c .before .before .before .before .before in
-    let l = t .before .loop in
-    let w = t .before .before .entry-terms .result in
-    let s = t .before .before .before .before in
+    let l = t .before .before .loop in
+    let w = t .before .before .before .entry-terms .result in
+    let s = t .before .before .before .before .before in
     let a = s .args in
-    let h = t .loop-test .taken in
+    let h = t .if1 .taken in
     let x = s .pre .3 .sends in
     let b = bookingAt (a .nodes .now) (a .shares .now) (a .place) (a .job .start) (a .job .count) in
     let e = c .before .before .chunk-on .ensures ∙ chunk-cells w (a .nodes .now) (a .shares .now) (a .place) (a .job .start) (a .job .count) (l .i) (l .last) h (x .few) (s .pre .0) (s .pre .1) (s .pre .2) in
@@ -93,11 +94,11 @@ loop-less c = search needs
 loop-again : tie.Need-loop-again Inv-loop μ-loop
 loop-again c =
     let t = c .before .before .before .before .before in
-    let l = t .before .loop in
-    let w = t .before .before .entry-terms in
-    let s = t .before .before .before .before in
+    let l = t .before .before .loop in
+    let w = t .before .before .before .entry-terms in
+    let s = t .before .before .before .before .before in
     let a = s .args in
-    let h = t .loop-test .taken in
+    let h = t .if1 .taken in
     let x = s .pre .3 .sends in
     let b = bookingAt (a .nodes .now) (a .shares .now) (a .place) (a .job .start) (a .job .count) in
     let e = c .before .before .chunk-on .ensures ∙ chunk-cells (w .result) (a .nodes .now) (a .shares .now) (a .place) (a .job .start) (a .job .count) (l .i) (l .last) h (x .few) (s .pre .0) (s .pre .1) (s .pre .2) in
@@ -106,13 +107,13 @@ loop-again c =
 returns : tie.Need-returns Inv-loop μ-loop
 unfolding raised
 returns c =
-    let l = c .before .loop in
-    let w = c .before .before .entry-terms in
-    let s = c .before .before .before .before in
+    let l = c .before .before .loop in
+    let w = c .before .before .before .entry-terms in
+    let s = c .before .before .before .before .before in
     let a = s .args in
     let x = s .pre .3 .sends in
     let b = bookingAt (a .nodes .now) (a .shares .now) (a .place) (a .job .start) (a .job .count) in
-    let none = lines-none (w .result) b (x .nodes) (x .shares) (l .i) (l .last) (c .loop-test .left) in
+    let none = lines-none (w .result) b (x .nodes) (x .shares) (l .i) (l .last) (c .if1 .left) in
     rw (← w .ensures) (sym (l .inv .1 .same ∙ ap (raised (l .held)) none))
 
 pub raise-spec : {M : Type 1} → statement M
