@@ -11,8 +11,7 @@ use Rattle.walk.specs.Order.{by-start-perm, by-start-grows}
 use Rattle.soundness.specs.Sweep.{spans-all}
 use Rattle.lists.specs.Keep.{keep-perm}
 use Rattle.timetable.specs.ByStart.{starts-split}
-use Rattle.planner.specs.Model.{Farm}
-use Rattle.planner.specs.Model.{Span, linesOf, spansOf, spansOfAll, byStart, waitingOf}
+use Rattle.planner.specs.Model.{Farm, Span, linesOf, spansOf, spansOfAll, byStart, waitingOf}
 use Rattle.planner.specs.Clock.{keep, startsAfter, linesOfAll, begun, waitingOn}
 use Rattle.demands.specs.CallLists.{chunkOf}
 

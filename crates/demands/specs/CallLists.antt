@@ -14,8 +14,7 @@ use Rattle.shares.specs.Model.{sendEnd, chunkFinish}
 use Rattle.walk.specs.declared.Job.{Job}
 use Rattle.walk.specs.declared.Chunk.{Chunk}
 use Rattle.walk.specs.Model.{Computes}
-use Rattle.planner.specs.Model.{Farm}
-use Rattle.planner.specs.Model.{costsFor, Span, linesOf, waitingOf}
+use Rattle.planner.specs.Model.{Farm, costsFor, Span, linesOf, waitingOf}
 use Rattle.planner.specs.Calls.{Said, ofNumber}
 use Rattle.planner.specs.Clock.{holds}
 pub use Rattle.planner.specs.Call.{Call, offer, quote, withdraw, move, account, Accepted, Noted, nothing, accepting, withdrawing, moving, does, reply, handed, isGranted, noted}

@@ -14,10 +14,9 @@ use Rattle.booking.specs.Best.{units}
 use Rattle.booking.specs.Model.{nodeKeys, ranked, search, bookingOf, bookedAt, bookOf}
 use Rattle.soundness.specs.Model.{noneOf, allDiffer, jobWithin, sharesKept, jobKept, jobPasses, jobsPass}
 use Rattle.walk.specs.Model.{noChunk, latest}
-use Rattle.planner.specs.Model.{Farm}
 use Rattle.answers.specs.declared.Offer.{Offer}
 use Rattle.limits.specs.Model.{allAtMost, allAtLeast, costsWithin}
-use Rattle.planner.specs.Model.{chunksFrom, spansOfAll, afters, waitingOf, walkTermsOf, freeTimesOf, byDeadline, keysBy, plan, booksAll, fitAll}
+use Rattle.planner.specs.Model.{Farm, chunksFrom, spansOfAll, afters, waitingOf, walkTermsOf, freeTimesOf, byDeadline, keysBy, plan, booksAll, fitAll}
 use Rattle.planner.specs.Passes.{countsWithin, timesWithin, waitingPass, passesOf}
 use Rattle.demands.specs.CallLists as call
 use Rattle.demands.specs.CallLists.{Call, handed}

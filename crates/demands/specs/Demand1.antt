@@ -30,9 +30,8 @@ use Rattle.walk.specs.Order.{by-start-perm}
 use Rattle.walk.specs.Model.{Computes}
 use Rattle.walk.specs.EndOfComputing.{job-computes}
 use Rattle.timetable.specs.Model.{chunkRow}
-use Rattle.planner.specs.Model.{Farm}
 use Rattle.answers.specs.declared.Offer.{Offer}
-use Rattle.planner.specs.Model.{greatest, between, costsWithin, linesOf, byStart, waitingOf, Sized}
+use Rattle.planner.specs.Model.{Farm, greatest, between, costsWithin, linesOf, byStart, waitingOf, Sized}
 use Rattle.planner.specs.Passes.{passesOf}
 use Rattle.planner.specs.Calls.{hasNumber, Open, Yes, Clock, Shown, Account, Gone, Quote, Said, granted, refused, showsWithin, openSaid, openFarm, unopened, openedWith, accountSaid, heldBy, allowanceOf, computeOf, planned, accepts, ofNumber, yesOf, offerAsked, offerSaid, asQuote, quoteSaid, withdrawnFarm, withdrawSaid, withdrawFarm}
 use Rattle.planner.specs.Clock.{startsBy, begun, issued, movedFarm, moveAsked, moveSaid, moveFarm, moveMemory, shown, shownAsked, shownSaid, shownMemory}

@@ -24,9 +24,8 @@ use Rattle.walk.specs.Model.{InTurn}
 use Rattle.walk.specs.Order.{Precedes}
 use Rattle.walk.specs.WalkSteps.{Ready}
 use Rattle.walk.specs.BestWalk.{BestAll, Fails, walk-iff, walk-each, walked-jobs}
-use Rattle.planner.specs.Model.{Farm}
 use Rattle.answers.specs.declared.Offer.{Offer}
-use Rattle.planner.specs.Model.{Sized, waitingOf, freeTimesOf, walkTermsOf, deadlineOf, requestOf, step}
+use Rattle.planner.specs.Model.{Farm, Sized, waitingOf, freeTimesOf, walkTermsOf, deadlineOf, requestOf, step}
 use Rattle.planner.specs.PassesSteps.{passes-within, passes-jobs}
 use Rattle.planner.specs.Calls.{Said, refused, newJob, queueOf, planned, accepts, withPlan, offerAsked, offerSaid, offerFarm, OfferGranted}
 use Rattle.planner.specs.CallsSteps.{walk-ready}

@@ -46,9 +46,8 @@ use Rattle.booking.specs.Best.{freeAt}
 use Rattle.walk.specs.declared.Job.{Job}
 use Rattle.walk.specs.declared.FreeTimes.{FreeTimes}
 use Rattle.walk.specs.declared.Chunk.{Chunk}
-use Rattle.planner.specs.Model.{Farm}
 use Rattle.answers.specs.declared.Offer.{Offer}
-use Rattle.planner.specs.Model.{mostHeld, between, costsWithin, ownCosts, Span, linesOf, spansOf, spansOfAll, Sized, after, afters, byDeadline, byStart, plan, waitingOf, freeTimesOf, walkTermsOf, Between, Apart}
+use Rattle.planner.specs.Model.{Farm, mostHeld, between, costsWithin, ownCosts, Span, linesOf, spansOf, spansOfAll, Sized, after, afters, byDeadline, byStart, plan, waitingOf, freeTimesOf, walkTermsOf, Between, Apart}
 use Rattle.planner.specs.Passes.{passesOf}
 use Rattle.walk.specs.Chain.{Fits, Chain, chain-append, Proper, free-same, free-other, after-length, chain-apart, finish-after-start}
 use Rattle.walk.specs.Order.{by-start-perm}

@@ -16,9 +16,8 @@ use Rattle.walk.specs.declared.Job.{Job}
 use Rattle.walk.specs.declared.WalkTerms.{WalkTerms}
 use Rattle.walk.specs.declared.FreeTimes.{FreeTimes}
 use Rattle.walk.specs.declared.Chunk.{Chunk}
-use Rattle.planner.specs.Model.{Farm}
 use Rattle.answers.specs.declared.Offer.{Offer}
-use Rattle.planner.specs.Model.{greatest, mostHeld, between, costsWithin, finishOf, Span, linesOf, spansOf, spansOfAll, Sized, afters, waitingOf, freeTimesOf, walkTermsOf, freeTimesAfter, byDeadline, plan, Between}
+use Rattle.planner.specs.Model.{Farm, greatest, mostHeld, between, costsWithin, finishOf, Span, linesOf, spansOf, spansOfAll, Sized, afters, waitingOf, freeTimesOf, walkTermsOf, freeTimesAfter, byDeadline, plan, Between}
 use Rattle.planner.specs.Passes.{passesOf}
 use Rattle.walk.specs.Chain.{Chain, chain-append, Proper, job-finish, afters-length}
 use Rattle.walk.specs.Order.{by-deadline-perm}

@@ -3,11 +3,10 @@ use mathlib.Core.Path.{_≡_, refl, ap, sym, subst, _∙_}
 use mathlib.Core.List.{List, [], _∷_}
 use Rattle.lists.specs.Laws.{All, all-join}
 use Rattle.limits.specs.declared.FarmCosts.{FarmCosts}
-use Rattle.planner.specs.Model.{Farm}
 use Rattle.answers.specs.declared.ComputeCost.{ComputeCost}
 use Rattle.answers.specs.declared.ComputeCost.the-variants.{Absent}
 use Rattle.answers.specs.declared.Offer.{Offer}
-use Rattle.planner.specs.Model.{costsFor, defaultCosts}
+use Rattle.planner.specs.Model.{Farm, costsFor, defaultCosts}
 use Rattle.planner.specs.Changes.{atTime, Keeps, keeps-same, keeps-then, jobs-keep, time-keeps}
 use Rattle.planner.specs.Calls.{computeOr, planned}
 use Rattle.planner.specs.Clock.{issued}

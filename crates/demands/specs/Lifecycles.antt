@@ -15,11 +15,10 @@ use Rattle.shares.specs.Model.{sum, sendEnd, chunkFinish}
 use Rattle.booking.specs.Best.{chosen, units}
 use Rattle.walk.specs.declared.Job.{Job}
 use Rattle.walk.specs.declared.Chunk.{Chunk}
-use Rattle.planner.specs.Model.{Farm}
 use Rattle.answers.specs.declared.Offer.{Offer}
 use Rattle.walk.specs.declared.ChunkTerms.{ChunkTerms}
 use Rattle.walk.specs.Model.{chunkTerms, chunkOn}
-use Rattle.planner.specs.Model.{costsFor, ownCosts, Span, chunksFrom, linesOf, spansOfAll, Sized, waitingOf, freeTimesOf, walkTermsOf, byDeadline, plan}
+use Rattle.planner.specs.Model.{Farm, costsFor, ownCosts, Span, chunksFrom, linesOf, spansOfAll, Sized, waitingOf, freeTimesOf, walkTermsOf, byDeadline, plan}
 use Rattle.planner.specs.Passes.{passesOf}
 use Rattle.walk.specs.Chain.{chunks-finish}
 use Rattle.walk.specs.Chunks.{lines-each}

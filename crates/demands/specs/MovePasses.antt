@@ -11,9 +11,8 @@ use Rattle.lists.specs.Laws.{All, Pairs, Differ, all-map, all-both, all-take, p
 use Rattle.booking.specs.Best.{chosen, units}
 use Rattle.walk.specs.declared.Job.{Job}
 use Rattle.walk.specs.declared.Chunk.{Chunk}
-use Rattle.planner.specs.Model.{Farm}
 use Rattle.walk.specs.Model.{chunkTerms}
-use Rattle.planner.specs.Model.{greatest, mostHeld, linesOf, spansOf, spansOfAll, JobSized, Sized, afters, fitAll, byStart, waitingOf, freeTimesOf, Apart}
+use Rattle.planner.specs.Model.{Farm, greatest, mostHeld, linesOf, spansOf, spansOfAll, JobSized, Sized, afters, fitAll, byStart, waitingOf, freeTimesOf, Apart}
 use Rattle.soundness.specs.Model.{jobsPass, allDiffer}
 use Rattle.planner.specs.Passes.{boundsOf, jobNumbers, waitingPass, passesOf, JobWithin, JobSound, Passes}
 use Rattle.planner.specs.PassesSteps.{farmWithin, usable}

@@ -11,9 +11,8 @@ use lib.Seq.{take-at, length-take-le}
 use Rattle.lists.specs.Laws.{All, all-map, all-image, all-take, all-join, perm-pairs}
 use Rattle.limits.specs.declared.FarmCosts.{FarmCosts}
 use Rattle.booking.specs.Model.{bookingOf}
-use Rattle.planner.specs.Model.{Farm}
 use Rattle.answers.specs.declared.Offer.{Offer}
-use Rattle.planner.specs.Model.{greatest, mostHeld, between, allAtMost, costsWithin, emptyJob, spansOfAll, JobSized, Sized, waitingOf}
+use Rattle.planner.specs.Model.{Farm, greatest, mostHeld, between, allAtMost, costsWithin, emptyJob, spansOfAll, JobSized, Sized, waitingOf}
 use Rattle.planner.specs.Passes.{passesOf, Passes}
 use Rattle.planner.specs.Calls.{unopened, openedWith, showsWithin, openFarm, newJob, planned, accepts, withPlan, offerAsked, offerFarm, OfferGranted}
 use Rattle.limits.specs.Says.{says-costs, says-at-most, between-is}

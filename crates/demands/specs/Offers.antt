@@ -10,9 +10,8 @@ use lib.Dec.{leb, ltb}
 use lib.ListN.{length}
 use Rattle.limits.specs.Says.{says-between}
 use Rattle.walk.specs.BestWalk.{BestAll, Fails, walk-is}
-use Rattle.planner.specs.Model.{Farm}
 use Rattle.answers.specs.declared.Offer.{Offer}
-use Rattle.planner.specs.Model.{greatest, walkTermsOf, freeTimesOf}
+use Rattle.planner.specs.Model.{Farm, greatest, walkTermsOf, freeTimesOf}
 use Rattle.planner.specs.Calls.{refused, offerOf, offerWith, computeOf, newJob, queueOf, planned, accepts, withPlan, offerAsked, offerSaid, offerFarm, OfferGranted}
 use Rattle.planner.specs.CallsSteps.{asked-none, walk-ready}
 use Rattle.planner.specs.OfferSteps.{offer-granted, offer-offered}

@@ -13,9 +13,8 @@ use Rattle.limits.specs.declared.FarmCosts.{FarmCosts}
 use Rattle.booking.specs.Best.{units}
 use Rattle.walk.specs.declared.Job.{Job}
 use Rattle.walk.specs.declared.Chunk.{Chunk}
-use Rattle.planner.specs.Model.{Farm}
 use Rattle.answers.specs.declared.Offer.{Offer}
-use Rattle.planner.specs.Model.{linesOf, spansOf, spansOfAll, Sized, byStart, waitingOf, freeTimesOf, walkTermsOf}
+use Rattle.planner.specs.Model.{Farm, linesOf, spansOf, spansOfAll, Sized, byStart, waitingOf, freeTimesOf, walkTermsOf}
 use Rattle.planner.specs.Passes.{passesOf}
 use Rattle.walk.specs.Chunks.{lines-each}
 use Rattle.walk.specs.Order.{by-start-perm, by-deadline-perm}

@@ -10,8 +10,7 @@ use Rattle.limits.specs.Says.{Says, says-true, says-as, says-then, says-both}
 use Rattle.walk.specs.declared.Job.{Job}
 use Rattle.soundness.specs.Sweep.{spans-perm, apart-sym}
 use Rattle.soundness.specs.Sound.{says-waiting}
-use Rattle.planner.specs.Model.{Farm}
-use Rattle.planner.specs.Model.{spansOfAll, waitingOf, freeTimesOf, JobSized, Sized, Apart}
+use Rattle.planner.specs.Model.{Farm, spansOfAll, waitingOf, freeTimesOf, JobSized, Sized, Apart}
 use Rattle.planner.specs.Passes.{countsWithin, timesWithin, boundsOf, passesOf, JobWithin, JobSound, Within, Passes}
 use Rattle.planner.specs.PassesSteps.{farmWithin, usable, says-within}
 use Rattle.planner.specs.Changes.{withJobs, jobs-within}

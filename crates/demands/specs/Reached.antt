@@ -4,8 +4,7 @@ use mathlib.Core.List.{List, [], _∷_, _++_}
 use mathlib.Core.Bool.{true}
 use Prim.Native.Nat.{ℕ}
 use Rattle.limits.specs.declared.FarmCosts.{FarmCosts}
-use Rattle.planner.specs.Model.{Farm}
-use Rattle.planner.specs.Model.{Sized}
+use Rattle.planner.specs.Model.{Farm, Sized}
 use Rattle.planner.specs.Passes.{passesOf}
 use Rattle.planner.specs.Calls.{openSaid, openFarm}
 use Rattle.demands.specs.CallLists.{Call, History, handed, opening, run}

@@ -15,8 +15,7 @@ use Rattle.walk.specs.Model.{chunkTerms, spansFrom}
 use Rattle.walk.specs.Chain.{Proper}
 use Rattle.walk.specs.Order.{by-start-perm}
 use Rattle.soundness.specs.Sweep.{spans-each}
-use Rattle.planner.specs.Model.{Farm}
-use Rattle.planner.specs.Model.{greatest, between, chunksFrom, Span, spansOf, spansOfAll, byStart, waitingOf, Sized, Apart}
+use Rattle.planner.specs.Model.{Farm, greatest, between, chunksFrom, Span, spansOf, spansOfAll, byStart, waitingOf, Sized, Apart}
 use Rattle.planner.specs.Passes.{passesOf}
 use Rattle.demands.specs.QuestionEleven.{passes-iff}
 use Rattle.planner.specs.Clock.{keep, startsBy, begun, issued, moveAsked}

@@ -16,8 +16,7 @@ use Rattle.booking.specs.Booked.{some-share}
 use Rattle.walk.specs.declared.Job.{Job}
 use Rattle.walk.specs.declared.WalkTerms.{WalkTerms}
 use Rattle.walk.specs.declared.FreeTimes.{FreeTimes}
-use Rattle.planner.specs.Model.{Farm}
-use Rattle.planner.specs.Model.{greatest, defaultCosts, ownCosts, spansOfAll, JobSized, Sized, freeTimesOf, walkTermsOf, requestOf, step, byDeadline, plan, booksAll, Apart, Between}
+use Rattle.planner.specs.Model.{Farm, greatest, defaultCosts, ownCosts, spansOfAll, JobSized, Sized, freeTimesOf, walkTermsOf, requestOf, step, byDeadline, plan, booksAll, Apart, Between}
 use Rattle.planner.specs.Passes.{boundsOf, JobWithin, JobSound, Within, Passes}
 use Rattle.planner.specs.Changes.{withQueue, jobs-within, queue-sized, queue-waits}
 use Rattle.walk.specs.Chain.{Fits, Chain, Proper, chain-follows, chain-apart}

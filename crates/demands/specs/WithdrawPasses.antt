@@ -9,8 +9,7 @@ use lib.Seq.{length-take-le}
 use Rattle.lists.specs.Laws.{All, Differ, all-map, all-take, image-all, perm-all, perm-length, perm-pairs}
 use Rattle.queue.specs.Numbers.{numberOfJob, of-number-has, without-perm}
 use Rattle.walk.specs.declared.Job.{Job}
-use Rattle.planner.specs.Model.{Farm}
-use Rattle.planner.specs.Model.{JobSized, Sized, waitingOf}
+use Rattle.planner.specs.Model.{Farm, JobSized, Sized, waitingOf}
 use Rattle.planner.specs.Passes.{passesOf, Passes}
 use Rattle.planner.specs.Changes.{queue-sized, queue-waits}
 use Rattle.planner.specs.Calls.{hasNumber, ofNumber, without, withdrawnFarm, withdrawFarm}

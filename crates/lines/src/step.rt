@@ -4,7 +4,8 @@ ghost use mathlib.Core.Path.{_≡_};
 ghost use Prim.Native.Nat.{_≤_};
 ghost use lib.Dec.{leb};
 ghost use lib.ListN.{getD};
-ghost use Rattle.planner.specs.Calls.{Replies, openSaid, openFarm};
+ghost use Rattle.planner.specs.Calls.{openSaid, openFarm};
+ghost use Rattle.planner.specs.Parts.{OpensFigures};
 ghost use Rattle.lines.specs.Model.{costsIn, offerIn};
 ghost use Rattle.lines.specs.Orders.{orderOf, orderTurn};
 ghost use Rattle.lines.specs.Rows.{allowancesIn};
@@ -14,15 +15,15 @@ use crate::Query;
 use answers::ComputeCost;
 use answers::Offer;
 use limits::FarmCosts;
-use planner::Farm;
-use planner::Reply;
+use planner::Opening;
+use planner::open_figures;
 use reading::Kind;
 use reading::Row;
 
 // An opening: nodes, the costs m p ST SC r, then one allowance a show.
-pub fn opening(row: Row) -> Reply
+pub fn opening(row: Row) -> Opening
     requires { ⌜ (6 ≤ row .count) × (row .count ≤ 39) ⌝ }
-    ensures { λ r. ⌜ Replies r (openSaid (getD (row .numbers) 0 0) (costsIn (row .numbers)) (allowancesIn row)) (openFarm (getD (row .numbers) 0 0) (costsIn (row .numbers)) (allowancesIn row)) ⌝ }
+    ensures { λ r. ⌜ OpensFigures r (openSaid (getD (row .numbers) 0 0) (costsIn (row .numbers)) (allowancesIn row)) (openFarm (getD (row .numbers) 0 0) (costsIn (row .numbers)) (allowancesIn row)) ⌝ }
 {
     let numbers = row.numbers;
     let count = row.count;
@@ -33,7 +34,7 @@ pub fn opening(row: Row) -> Reply
         nodesetup: numbers[4],
         returning: numbers[5],
     };
-    Farm::open(numbers[0], costs, &numbers[6..count])
+    open_figures(numbers[0], costs, &numbers[6..count])
 }
 
 // The fourth of `count` numbers, where there is one.

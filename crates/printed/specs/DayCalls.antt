@@ -12,9 +12,8 @@ use lib.ListN.{length, getD, replicate}
 use Rattle.limits.specs.declared.FarmCosts.{FarmCosts}
 use Rattle.walk.specs.declared.Chunk.{Chunk}
 use Rattle.walk.specs.Model.{noChunk}
-use Rattle.planner.specs.Model.{Farm}
 use Rattle.answers.specs.declared.Offer.{Offer}
-use Rattle.planner.specs.Model.{between, costsWithin}
+use Rattle.planner.specs.Model.{Farm, between, costsWithin}
 use Rattle.planner.specs.Calls.{SaidWord, Open, Yes, Clock, Shown, Account, Gone, Quote, No, Said, granted, refused, unopened, showsWithin, openSaid, offerSaid, quoteSaid}
 use Rattle.planner.specs.Call.{Call, Accepted, acceptedFrom, Noted, nothing, does, reply, isGranted, noted}
 use Rattle.reading.specs.declared.Kind.{Kind}

@@ -15,9 +15,8 @@ use Rattle.lists.specs.Laws.{All}
 use Rattle.limits.specs.declared.FarmCosts.{FarmCosts}
 use Rattle.limits.specs.Says.{between-is}
 use Rattle.walk.specs.declared.Chunk.{Chunk}
-use Rattle.planner.specs.Model.{Farm}
 use Rattle.answers.specs.declared.Offer.{Offer}
-use Rattle.planner.specs.Model.{between, Between, costsWithin}
+use Rattle.planner.specs.Model.{Farm, between, Between, costsWithin}
 use Rattle.planner.specs.Calls.{Said, Open, Account, granted, refused, showsWithin, openSaid, openFarm, openedWith, unopened, accountSaid, heldBy, allowanceOf, offerSaid, asQuote, quoteSaid}
 use Rattle.planner.specs.Call.{Call, Noted, does, reply}
 use Rattle.planner.specs.CallLaws.{none-noted}
