@@ -1,5 +1,5 @@
 -- What commands and queries print and leave, the answer of a clock move and the records that it is lent, for src/blocks.rt.
-use mathlib.Core.Path.{_≡_, refl, ap, ap₂, sym, _∙_}
+use mathlib.Core.Path.{_≡_, refl, ap, ap₂, sym, subst, _∙_}
 use mathlib.Core.List.{List, [], _++_, map}
 use mathlib.Core.Bool.{Bool, true, false, cond}
 use Prim.Native.Nat.{ℕ, _+_, _≤_, _<_}
@@ -13,16 +13,14 @@ use Rattle.walk.specs.Model.{inOrder}
 use Rattle.walk.specs.Chunks.{Sendable}
 use Rattle.timetable.specs.Model.{chunkRow, linesOfAll}
 use Rattle.timetable.specs.BeginSteps.{chunks}
-use Rattle.planner.specs.Model.{Farm}
+use Rattle.planner.specs.declared.Figures.{Figures}
 use Rattle.planner.specs.declared.Move.{Move}
 use Rattle.planner.specs.declared.Decision.{Decision}
-use Rattle.planner.specs.Changes.{withJobs}
-use Rattle.planner.specs.CallsSteps.{Decides}
+use Rattle.planner.specs.Model.{Farm, farmOf, Sized}
+use Rattle.planner.specs.Parts.{CellsSized, withEntries, Decides}
 use Rattle.planner.specs.Call.{offer, quote, withdraw, account, reply, handed}
-use Rattle.planner.specs.Model.{Sized}
-use Rattle.planner.specs.Calls.{Said}
+use Rattle.planner.specs.Calls.{Said, said}
 use Rattle.planner.specs.Clock.{moveSaid, moveLines}
-use Rattle.planner.specs.Calls.{said}
 use Rattle.planner.specs.ClockSteps.{Begins, MoveDecides, begins-few, begins-places, begins-sends, begins-lines, begins-count, move-taken}
 use Rattle.lines.specs.declared.Command.{Command}
 use Rattle.lines.specs.declared.Command.the-variants as command
@@ -49,11 +47,23 @@ query-keeps f (query.Quote o) = refl
 query-keeps f (query.Account n) = refl
 
 -- The farm with a decision carried out, where it is granted and where it is not.
-pub decided-granted : {f : Farm} {s : Said} {next : Farm} {d : Decision} → Decides f s next d → d .granted ≡ true → withJobs f (d .used) (d .waiting) (d .jobs) ≡ next
-decided-granted {f} {s} {next} {d} x e = ap (λ (b : Bool). cond b (withJobs f (d .used) (d .waiting) (d .jobs)) f) (sym e) ∙ x .hands
+module _ {f : Figures} {ks xs : List ℕ} {s : Said} {next : Farm} {d : Decision} {ks′ xs′ : List ℕ} (x : Decides f ks xs s next d ks′ xs′) where
+  pub decided-granted : d .granted ≡ true → farmOf (withEntries f (d .used) (d .waiting) (d .jobs)) ks′ xs′ ≡ next
+  decided-granted e = ap (λ (b : Bool). farmOf (cond b (withEntries f (d .used) (d .waiting) (d .jobs)) f) ks′ xs′) (sym e) ∙ x .hands
 
-pub decided-refused : {f : Farm} {s : Said} {next : Farm} {d : Decision} → Decides f s next d → d .granted ≡ false → f ≡ next
-decided-refused {f} {s} {next} {d} x e = ap (λ (b : Bool). cond b (withJobs f (d .used) (d .waiting) (d .jobs)) f) (sym e) ∙ x .hands
+  pub decided-refused : d .granted ≡ false → farmOf f ks′ xs′ ≡ next
+  decided-refused e = ap (λ (b : Bool). farmOf (cond b (withEntries f (d .used) (d .waiting) (d .jobs)) f) ks′ xs′) (sym e) ∙ x .hands
+
+-- It is decided of decisions and cells that are the same.
+pub decided-same : {f : Figures} {ks xs : List ℕ} {s : Said} {next : Farm} {d d′ : Decision} {ks′ xs′ ks″ xs″ : List ℕ} → d ≡ d′ → ks″ ≡ ks′ → xs″ ≡ xs′
+    → Decides f ks xs s next d′ ks′ xs′ → Decides f ks xs s next d ks″ xs″
+decided-same {f} {ks} {xs} {s} {next} {d} {d′} {ks′} {xs′} {ks″} {xs″} p q r x =
+    subst (λ (e : Decision). Decides f ks xs s next e ks″ xs″) (sym p)
+    (subst (λ (l : List ℕ). Decides f ks xs s next d′ l xs″) (sym q) (subst (λ (l : List ℕ). Decides f ks xs s next d′ ks′ l) (sym r) x))
+
+-- So are the lengths of cells.
+pub cells-same : {ks xs ks′ xs′ : List ℕ} → ks ≡ ks′ → xs ≡ xs′ → CellsSized ks′ xs′ → CellsSized ks xs
+cells-same p q z = (ap length p ∙ z .0, ap length q ∙ z .1)
 
 -- A move that issues no line prints its answer alone.
 pub clock-plain : (f : Farm) (t : ℕ) (s : Said) → moveLines f t lent ≡ [] → s ≡ moveSaid f t lent → answerText s ≡ chunkTexts (moveLines f t lent) ++ answerText (moveSaid f t lent)
@@ -72,9 +82,12 @@ module _ (f : Farm) (t : ℕ) (r : Move) (sized : Sized f) (b : Begins f t (r .d
   counted = ap length (begins-lines f t (r .due) sized b) ∙ begins-count f t (r .due) sized b
 
   -- What is asked to write its lines to the lent records.
-  pub rows-asked : (r .due .count ≤ 128) × All (λ (k : Key). k .place < 128) (take (r .due .count) (r .due .keys)) × All (Sendable (f .costs)) named × (chunks named ≤ 1024)
-  rows-asked = (
+  pub rows-asked : (ks xs : List ℕ) → CellsSized ks xs
+      → (r .due .count ≤ 128) × (length ks ≡ 8192) × (length xs ≡ 8192) × All (λ (k : Key). k .place < 128) (take (r .due .count) (r .due .keys)) × All (Sendable (f .costs)) named × (chunks named ≤ 1024)
+  rows-asked ks xs z = (
     begins-few f t (r .due) sized b,
+    z .0,
+    z .1,
     begins-places f t (r .due) sized b,
     begins-sends f t (r .due) sized b,
     omega (arith, few, counted, b .due .lines, ap chunks (b .due .jobs)),

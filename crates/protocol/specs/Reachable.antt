@@ -6,8 +6,7 @@ use Prim.Native.Nat.{ℕ}
 use lib.Dec.{eqb}
 use lib.ListN.{getD}
 use Rattle.limits.specs.declared.FarmCosts.{FarmCosts}
-use Rattle.planner.specs.Model.{Farm}
-use Rattle.planner.specs.Model.{Sized, between, costsWithin}
+use Rattle.planner.specs.Model.{Farm, Sized, between, costsWithin}
 use Rattle.planner.specs.Passes.{passesOf}
 use Rattle.planner.specs.Calls.{unopened, showsWithin, openSaid, openFarm}
 use Rattle.planner.specs.Call.{Call, handed}

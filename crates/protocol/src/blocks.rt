@@ -1,8 +1,11 @@
 // A day fed in blocks.
 ghost use mathlib.Core.Path.{_≡_};
-ghost use mathlib.Core.List.{[]};
+ghost use mathlib.Core.List.{List, []};
+ghost use Prim.Native.Nat.{ℕ};
 ghost use lib.ListN.{length};
+ghost use Rattle.planner.specs.Model.{farmOf};
 ghost use Rattle.planner.specs.Calls.{unopened};
+ghost use Rattle.planner.specs.Parts.{CellsSized};
 ghost use Rattle.text.specs.Writing.{WroteWithin};
 ghost use Rattle.lines.specs.Model.{part};
 ghost use Rattle.lines.specs.Rows.{pendingOf};
@@ -23,13 +26,20 @@ use lines::kept::with_bytes;
 use lines::step::in_turn;
 use lines::step::opening;
 use lines::step::order_of;
-use planner::Farm;
+use planner::account_unchecked;
+use planner::move_unchecked;
+use planner::moved;
+use planner::offer_unchecked;
+use planner::open_figures;
+use planner::quote_unchecked;
+use planner::withdraw_unchecked;
 use search::find;
 use timetable::lines::write_rows;
 
-// The start of a day: an unopened farm, and nothing of a line. The farm is the one that a refused opening hands back.
+// The start of a day: an unopened farm, whatever stands in the cells, and nothing of a line. The figures are those of a
+// refused opening.
 pub fn start() -> Session
-    ensures { λ r. ⌜ (r .farm ≡ unopened) × (pendingOf (r .rest) ≡ part []) ⌝ }
+    ensures { λ r. ⌜ ((ks xs : List ℕ) → farmOf (r .figures) ks xs ≡ unopened) × (pendingOf (r .rest) ≡ part []) ⌝ }
 {
     let costs = FarmCosts {
         send: 0,
@@ -39,10 +49,10 @@ pub fn start() -> Session
         returning: 0,
     };
     let none = [0u64; 1];
-    let reply = Farm::open(0, costs, &none);
-    let farm = reply.farm;
+    let opening = open_figures(0, costs, &none);
+    let figures = opening.figures;
     Session {
-        farm,
+        figures,
         rest: Rest {
             fill: 0,
             bytes: [0; 1024],
@@ -51,17 +61,22 @@ pub fn start() -> Session
 }
 
 // Answers the lines of a block from place `from` on, at the front of `out`. It stops at the block's end, where the rest of an
-// unfinished line is kept, or where `out` may not hold the next answer. The farm was reached by an opening and calls, so question 11 is not asked
-// again. It is changed where it stands: a function that took it and handed it back would copy it. A clock move is lent `rows`, in which nothing is kept.
+// unfinished line is kept, or where `out` may not hold the next answer. The farm was reached by an opening and calls, so
+// question 11 is not asked again. It is changed where it stands: a function that took it and handed it back would copy it.
+// An offer and a quote are lent the plan's cells and a clock move `rows`, in which nothing is kept.
 pub fn answer_block(
     session: Session,
     block: &[u8],
     from: usize,
     rows: &mut [[u64; 8]; 1024],
+    nodes: &mut [u8; 8192],
+    shares: &mut [u32; 8192],
+    plan_nodes: &mut [u8; 8192],
+    plan_shares: &mut [u32; 8192],
     out: &mut [u8],
 ) -> Progress
-    requires { ⌜ Reachable (session .farm) ⌝ }
-    ensures { λ r. ⌜ Took session (now (block .entry)) from (now (out .entry)) (now (out .exit)) r ⌝ }
+    requires { ⌜ CellsSized (now nodes) (now shares) × CellsSized (now «plan_nodes») (now «plan_shares») × Reachable (farmOf (session .figures) (now nodes) (now shares)) ⌝ }
+    ensures { λ r. ⌜ Took (farmOf (session .figures) (now (nodes .entry)) (now (shares .entry))) (pendingOf (session .rest)) (now (block .entry)) from (now (out .entry)) (now (out .exit)) r (now (nodes .exit)) (now (shares .exit)) × CellsSized (now (nodes .exit)) (now (shares .exit)) × CellsSized (now («plan_nodes» .exit)) (now («plan_shares» .exit)) ⌝ }
 {
     if out.len() < 180400 {
         return Progress {
@@ -71,14 +86,14 @@ pub fn answer_block(
         };
     }
     let last = out.len() - 180400;
-    let mut farm = session.farm;
+    let mut figures = session.figures;
     let mut rest = session.rest;
     let mut next = from;
     let mut at = 0;
     while next < block.len() {
         if last < at {
             return Progress {
-                session: Session { farm, rest },
+                session: Session { figures, rest },
                 next,
                 written: at,
             };
@@ -87,7 +102,7 @@ pub fn answer_block(
         if end == block.len() {
             let line = with_bytes(rest, block, next, end);
             return Progress {
-                session: Session { farm, rest: line },
+                session: Session { figures, rest: line },
                 next: end,
                 written: at,
             };
@@ -96,53 +111,59 @@ pub fn answer_block(
         rest.fill = 0;
         next = end + 1;
         let order = order_of(row);
-        if !in_turn(order, farm.opened) {
+        if !in_turn(order, figures.opened) {
             at = put_unread(out, at);
         } else {
             match order {
                 Order::Query(query) => {
                     let told = match query {
-                        Query::Account(show) => farm.account_unchecked(show),
-                        Query::Quote(offer) => farm.quote_unchecked(offer),
+                        Query::Account(show) => account_unchecked(figures, nodes, shares, show),
+                        Query::Quote(offer) => {
+                            quote_unchecked(figures, offer, nodes, shares, plan_nodes, plan_shares)
+                        }
                     };
                     at = put_answer(out, at, told);
                 }
                 Order::Command(command) => {
                     let decision = match command {
-                        Command::Offer(offer) => farm.offer_unchecked(offer),
-                        Command::Withdraw(number) => farm.withdraw_unchecked(number),
+                        Command::Offer(offer) => {
+                            offer_unchecked(figures, offer, nodes, shares, plan_nodes, plan_shares)
+                        }
+                        Command::Withdraw(number) => {
+                            withdraw_unchecked(figures, number, nodes, shares)
+                        }
                     };
                     let answer = decision.answer;
                     at = put_answer(out, at, answer);
                     if decision.granted {
                         let jobs = decision.jobs;
-                        farm.used = decision.used;
-                        farm.waiting = decision.waiting;
-                        farm.jobs = jobs;
+                        figures.used = decision.used;
+                        figures.waiting = decision.waiting;
+                        figures.jobs = jobs;
                     }
                 }
                 Order::Clock(time) => {
-                    let step = farm.move_unchecked(time, 1024);
+                    let step = move_unchecked(figures, nodes, shares, time, 1024);
                     let answer = step.answer;
                     let due = step.due;
                     if !step.granted {
                         at = put_answer(out, at, answer);
                     } else if due.count == 0 {
-                        farm.clock = time;
+                        figures.clock = time;
                         at = put_answer(out, at, answer);
                     } else {
-                        let costs = farm.costs;
-                        let jobs = farm.jobs;
+                        let costs = figures.costs;
+                        let jobs = figures.jobs;
                         let keys = due.keys;
-                        write_rows(rows, costs, jobs, keys, due.count);
-                        farm = farm.moved(due, time);
+                        write_rows(rows, costs, jobs, nodes, shares, keys, due.count);
+                        figures = moved(figures, due, time, nodes, shares);
                         at = put_move(out, at, rows, due.lines, answer);
                     }
                 }
                 Order::Open => {
-                    let reply = opening(row);
-                    let answer = reply.answer;
-                    farm = reply.farm;
+                    let opened = opening(row);
+                    let answer = opened.answer;
+                    figures = opened.figures;
                     at = put_answer(out, at, answer);
                 }
                 Order::Unreadable => {
@@ -152,16 +173,24 @@ pub fn answer_block(
         }
     }
     Progress {
-        session: Session { farm, rest },
+        session: Session { figures, rest },
         next,
         written: at,
     }
 }
 
 // The end of the input: what is pending is a line if it is not empty. It writes nothing where `out` may not hold the answer.
-pub fn end_of_input(session: Session, rows: &mut [[u64; 8]; 1024], out: &mut [u8]) -> usize
-    requires { ⌜ Reachable (session .farm) ⌝ }
-    ensures { λ r. ⌜ WroteWithin (length (now (out .entry))) (endText session (length (now (out .entry)))) 0 (now (out .entry)) (now (out .exit)) r ⌝ }
+pub fn end_of_input(
+    session: Session,
+    rows: &mut [[u64; 8]; 1024],
+    nodes: &mut [u8; 8192],
+    shares: &mut [u32; 8192],
+    plan_nodes: &mut [u8; 8192],
+    plan_shares: &mut [u32; 8192],
+    out: &mut [u8],
+) -> usize
+    requires { ⌜ CellsSized (now nodes) (now shares) × CellsSized (now «plan_nodes») (now «plan_shares») × Reachable (farmOf (session .figures) (now nodes) (now shares)) ⌝ }
+    ensures { λ r. ⌜ WroteWithin (length (now (out .entry))) (endText (farmOf (session .figures) (now (nodes .entry)) (now (shares .entry))) (pendingOf (session .rest)) (length (now (out .entry)))) 0 (now (out .entry)) (now (out .exit)) r ⌝ }
 {
     let rest = session.rest;
     if out.len() < 180400 {
@@ -171,6 +200,16 @@ pub fn end_of_input(session: Session, rows: &mut [[u64; 8]; 1024], out: &mut [u8
         return 0;
     }
     let newline = [b'\n'];
-    let done = answer_block(session, &newline, 0, rows, out);
+    let done = answer_block(
+        session,
+        &newline,
+        0,
+        rows,
+        nodes,
+        shares,
+        plan_nodes,
+        plan_shares,
+        out,
+    );
     done.written
 }

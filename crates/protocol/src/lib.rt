@@ -6,11 +6,12 @@ pub use blocks::answer_block;
 pub use blocks::end_of_input;
 pub use blocks::start;
 use lines::Rest;
-use planner::Farm;
+use planner::Figures;
 
-// A day so far: the farm, and what has come of the next line.
+// A day so far: the figures of the farm, and what has come of the next line. The cells of the farm's bookings are lent beside
+// it, so that no line copies them.
 pub struct Session {
-    pub farm: Farm,
+    pub figures: Figures,
     pub rest: Rest,
 }
 
