@@ -2,6 +2,8 @@
 use mathlib.Core.Path.{_≡_, sym, subst, _∙_}
 use native.Mathlib.Omega.{arith}
 use lib.ListN.{length}
+use Rattle.planner.specs.Model.{farmOf}
+use Rattle.planner.specs.Parts.{CellsSized}
 use Rattle.protocol.specs.Reachable.{Reachable, unopened-reachable}
 use Rattle.feeding.specs.Fed.{leaves-reachable}
 use borrow.Author.Needs.{needs}
@@ -9,10 +11,11 @@ use Rattle.feeding.proofs.answer_stream.Statement.{statement}
 use Rattle.feeding.proofs.answer_stream.Tie as tie
 
 abbrev Inv-loop : tie.InvT-loop
-Inv-loop input output block₀ out₀ rows₀ day₀ turns₀ block out rows day turns = (length block ≡ 65536) × (length out ≡ 262144) × Reachable (day .farm)
+Inv-loop input output block₀ out₀ rows₀ nodes₀ shares₀ plan-nodes₀ plan-shares₀ day₀ turns₀ block out rows nodes shares plan-nodes plan-shares day turns =
+    (length block ≡ 65536) × (length out ≡ 262144) × Reachable (farmOf (day .figures) nodes shares) × CellsSized nodes shares × CellsSized plan-nodes plan-shares
 
 abbrev μ-loop : tie.MeasureT-loop
-μ-loop input output block₀ out₀ rows₀ day₀ turns₀ block out rows day turns = turns
+μ-loop input output block₀ out₀ rows₀ nodes₀ shares₀ plan-nodes₀ plan-shares₀ day₀ turns₀ block out rows nodes shares plan-nodes plan-shares day turns = turns
 
 large-buffer-requires : tie.Need-large-buffer-requires Inv-loop μ-loop
 large-buffer-requires c κs = search needs
@@ -21,7 +24,7 @@ start-requires : tie.Need-start-requires Inv-loop μ-loop
 start-requires c κs = search needs
 
 loop-holds : tie.Need-loop-holds Inv-loop μ-loop
-loop-holds c = (search needs, search needs, subst Reachable (sym (c .start .ensures .0)) unopened-reachable)
+loop-holds c = (search needs, search needs, subst Reachable (sym (c .start .ensures .0 _ _)) unopened-reachable, (search needs, search needs), (search needs, search needs))
 
 sub-turns : tie.Need-sub-turns Inv-loop μ-loop
 sub-turns c = search needs
@@ -36,7 +39,7 @@ slice-aggregate-end : tie.Need-slice-aggregate-end Inv-loop μ-loop
 slice-aggregate-end c = search needs
 
 end-requires : tie.Need-end-requires Inv-loop μ-loop
-end-requires c κs = c .before .before .before .before .before .before .before .loop .inv .2
+end-requires c κs = let l = c .before .before .before .before .before .before .before .before .before .before .before .loop in (l .inv .3, l .inv .4, l .inv .2)
 
 returns : tie.Need-returns Inv-loop μ-loop
 returns c = search needs
@@ -66,7 +69,7 @@ slice-aggregate-answer-all : tie.Need-slice-aggregate-answer-all Inv-loop μ-loo
 slice-aggregate-answer-all c = search needs
 
 answer-all-requires : tie.Need-answer-all-requires Inv-loop μ-loop
-answer-all-requires c κs = c .before .before .before .before .before .before .before .before .before .before .before .before .loop .inv .2
+answer-all-requires c κs = let l = c .before .before .before .before .before .before .before .before .before .before .before .before .before .before .before .before .loop in (l .inv .3, l .inv .4, l .inv .2)
 
 tell-unwritten-requires : tie.Need-tell-unwritten-requires Inv-loop μ-loop
 tell-unwritten-requires c κs = search needs
@@ -75,13 +78,18 @@ returns-3 : tie.Need-returns-3 Inv-loop μ-loop
 returns-3 c = search needs
 
 loop-less : tie.Need-loop-less Inv-loop μ-loop
-loop-less c = omega (arith, c .before .before .before .before .before .before .before .before .before .before .before .before .before .before .before .before .loop-test .taken)
+loop-less c = omega (arith, c .before .before .before .before .before .before .before .before .before .before .before .before .before .before .before .before .before .before .before .before .loop-test .taken)
 
 loop-again : tie.Need-loop-again Inv-loop μ-loop
 loop-again c =
-    let l = c .before .before .before .before .before .before .before .before .before .before .before .before .before .before .before .before .before .loop in
-    let sent = c .before .before .before .before .answer-all in
-    (c .before .before .before .before .before .before .before .before .before .before .before .before .before .before .read .kept .1 .0 ∙ l .inv .0, sent .kept .1 .1 .1 .1 .0 ∙ l .inv .1, leaves-reachable (l .day) (sent .result .session) _ (sent .ensures .day) (l .inv .2))
+    let l = c .before .before .before .before .before .before .before .before .before .before .before .before .before .before .before .before .before .before .before .before .before .loop in
+    let sent = c .before .before .before .before .answer-all in (
+      c .before .before .before .before .before .before .before .before .before .before .before .before .before .before .before .before .before .before .read .kept .1 .0 ∙ l .inv .0,
+      sent .kept .1 .1 .1 .1 .1 .1 .1 .1 .0 ∙ l .inv .1,
+      leaves-reachable _ _ _ (sent .result .session) _ _ (sent .ensures .0 .day) (l .inv .2),
+      sent .ensures .1,
+      sent .ensures .2,
+    )
 
 returns-4 : tie.Need-returns-4 Inv-loop μ-loop
 returns-4 c = search needs
