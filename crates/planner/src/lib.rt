@@ -3,10 +3,12 @@
 
 mod calls;
 mod passing;
+mod withdraw;
 
 use answers::Answer;
 pub use calls::account_unchecked;
 pub use calls::open_figures;
+pub use withdraw::withdraw_unchecked;
 use limits::FarmCosts;
 use timetable::Due;
 use walk::Chunk;
