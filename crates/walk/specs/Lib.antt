@@ -13,3 +13,4 @@ pub mod Writing
 pub mod BestWalk
 pub mod Plan
 pub mod Walking
+pub mod Bared
