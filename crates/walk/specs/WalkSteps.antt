@@ -40,8 +40,8 @@ pub record Ready (w : WalkTerms) (b : FreeTimes) (js : List Job) : Type 0 where
   pub free : All (λ (t : ℕ). t ≤ greatest) (take (w .nodes) (b .free))
   pub jobs : All Walkable js
 
--- what the walk of the first n of these jobs comes to, with rows of cells for it: where all are booked, the first n entries with these rows are the plan,
--- and the entries behind them are as they were
+-- what the walk of the first n of these jobs comes to, with rows of cells for it: where all are booked, the first n
+-- entries with these rows are the plan, and the entries behind them are as they were
 pub record Walked (w : WalkTerms) (b : FreeTimes) (jobs : List QueueEntry) (n : ℕ) (r : Plan) (ks xs : List ℕ) : Type 0 where
   pub books : r .ok ≡ booksAll w b (byDeadline (map bare (take n jobs)))
   pub plans : r .ok ≡ true → take n (jobsOf ks xs (r .jobs)) ≡ plan w b (byDeadline (map bare (take n jobs)))
