@@ -2,12 +2,16 @@
 // one back. What each call means is in specs/Calls.antt and specs/Clock.antt.
 
 mod calls;
+mod offers;
 mod passing;
+mod quote;
 mod withdraw;
 
 use answers::Answer;
 pub use calls::account_unchecked;
 pub use calls::open_figures;
+pub use offers::offer_unchecked;
+pub use quote::quote_unchecked;
 pub use withdraw::withdraw_unchecked;
 use limits::FarmCosts;
 use timetable::Due;
