@@ -2,11 +2,14 @@
 // one back. What each call means is in specs/Calls.antt and specs/Clock.antt.
 
 mod calls;
+mod clock;
 mod passing;
 
 use answers::Answer;
 pub use calls::account_unchecked;
 pub use calls::open_figures;
+pub use clock::move_unchecked;
+pub use clock::moved;
 use limits::FarmCosts;
 use timetable::Due;
 use walk::Chunk;
@@ -72,15 +75,4 @@ pub struct Move {
 pub struct Timetable {
     pub reply: Reply,
     pub lines: [Chunk; 1024],
-}
-
-pub mod clock {
-    use crate::Reply;
-    use walk::Job;
-
-    pub struct Issue {
-        pub count: usize,
-        pub jobs: [Job; 128],
-        pub reply: Reply,
-    }
 }
