@@ -236,6 +236,11 @@ pub record WaitsOn (f : Farm) (t : ℕ) (ks xs : List ℕ) (hs : List QueueEntry
   pub sized : QueueSized ks xs hs
   pub left : Kept 128 (waitingOn f t) (f .jobs) (jobsOf ks xs hs) kept (keep (startsAfter t) (drop i (waitingOf f)))
 
+-- What is the same stands the same.
+pub waits-same : {f : Farm} {t : ℕ} {ks xs ks′ xs′ : List ℕ} {hs hs′ : List QueueEntry} {kept kept′ i : ℕ} → ks′ ≡ ks → xs′ ≡ xs → hs′ ≡ hs → kept′ ≡ kept → WaitsOn f t ks xs hs kept i
+    → WaitsOn f t ks′ xs′ hs′ kept′ i
+waits-same e₁ e₂ e₃ e₄ x = rw (e₁, e₂, e₃, e₄) x
+
 module _ (f : Farm) (t : ℕ) (size : length (f .jobs) ≡ 128) (most : f .waiting ≤ 128) (ks xs : List ℕ) (hs : List QueueEntry) where
   pub waits-first : f .jobs ≡ jobsOf ks xs hs → QueueSized ks xs hs → WaitsOn f t ks xs hs 0 0
   waits-first q s = record { within = omega arith; some = omega arith; sized = s; left = record { size = ap length (sym q) ∙ size; front = refl; behind = sym q } }
