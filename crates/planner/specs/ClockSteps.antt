@@ -288,7 +288,7 @@ module _ (f : Farm) (t : ℕ) (size : length (f .jobs) ≡ 128) (most : f .waiti
               some = omega (arith, x .some);
               sized = x .sized;
               left = kept-same noJob 128 (waitingOn f t) (f .jobs) (jobsOf ks xs hs) kept _ (omega arith)
-                (subst (λ (n : ℕ). Kept 128 (waitingOn f t) (f .jobs) (jobsOf ks xs hs) kept (getD (jobsOf ks xs hs) n noJob ∷ keep (startsAfter t) (drop (i + 1) (waitingOf f)))) e next);
+                  (subst (λ (n : ℕ). Kept 128 (waitingOn f t) (f .jobs) (jobsOf ks xs hs) kept (getD (jobsOf ks xs hs) n noJob ∷ keep (startsAfter t) (drop (i + 1) (waitingOf f)))) e next);
             }
 
         -- and moves up with its row behind one that is.

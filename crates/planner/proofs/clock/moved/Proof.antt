@@ -79,21 +79,20 @@ loop-again c =
     let l = c .before .before .before .before .loop in
     let h = c .before .before .before .loop-test .taken in
     let t = a .time in
-    let most = l .inv .0 in
-    (
+    let most = l .inv .0 in (
       most,
       ⊎-elim
-      (λ x.
-      let k = x .0 .taken in
-      let y = x .1 in
-      let next : WaitsOn f t (y .nodes) (y .shares) (y .jobs) (l .kept + 1) (l .i + 1) =
-      ⊎-elim
-      (λ u. waits-same (u .4) (u .5) (u .6) refl (waits-moved f t (z .jobs) most (l .nodes) (l .shares) (l .jobs) (l .kept) (l .i) (l .inv .1) h k _ _ (waiting-short f z (s .pre .1 .passes)) (u .0 .taken) (u .3 .ensures)))
-      (λ u. waits-same (u .1) (u .2) (u .3) refl (waits-stay f t (z .jobs) most (l .nodes) (l .shares) (l .jobs) (l .kept) (l .i) (l .inv .1) h k (u .0 .left)))
-      (y .came) in
-      waits-same (x .2) (x .3) (x .4) (x .5) next)
-      (λ x. waits-same (x .1) (x .2) (x .3) (x .4) (waits-past f t (z .jobs) most (l .nodes) (l .shares) (l .jobs) (l .kept) (l .i) (l .inv .1) h (x .0 .left)))
-      (c .if1 .came),
+          (λ x.
+          let k = x .0 .taken in
+          let y = x .1 in
+          let next : WaitsOn f t (y .nodes) (y .shares) (y .jobs) (l .kept + 1) (l .i + 1) =
+          ⊎-elim
+          (λ u. waits-same (u .4) (u .5) (u .6) refl (waits-moved f t (z .jobs) most (l .nodes) (l .shares) (l .jobs) (l .kept) (l .i) (l .inv .1) h k _ _ (waiting-short f z (s .pre .1 .passes)) (u .0 .taken) (u .3 .ensures)))
+          (λ u. waits-same (u .1) (u .2) (u .3) refl (waits-stay f t (z .jobs) most (l .nodes) (l .shares) (l .jobs) (l .kept) (l .i) (l .inv .1) h k (u .0 .left)))
+          (y .came) in
+          waits-same (x .2) (x .3) (x .4) (x .5) next)
+          (λ x. waits-same (x .1) (x .2) (x .3) (x .4) (waits-past f t (z .jobs) most (l .nodes) (l .shares) (l .jobs) (l .kept) (l .i) (l .inv .1) h (x .0 .left)))
+          (c .if1 .came),
     )
 
 returns : tie.Need-returns Inv-loop μ-loop
@@ -104,8 +103,7 @@ returns c =
     let z = parts-sized (a .figures) (a .nodes .now) (a .shares .now) (figures-sized (a .figures) (s .good .0)) (s .pre .0) in
     let l = c .before .before .before .before .loop in
     let b = c .before .before .before .before .before .begun-by in
-    let e = waits-all f (a .time) (z .jobs) (l .inv .0) (l .nodes) (l .shares) (l .jobs) (l .kept) (l .i) (l .inv .1) (c .before .before .before .loop-test .left) in
-    (
+    let e = waits-all f (a .time) (z .jobs) (l .inv .0) (l .nodes) (l .shares) (l .jobs) (l .kept) (l .i) (l .inv .1) (c .before .before .before .loop-test .left) in (
       moved-is f (a .time) _ (b .result .times) (b .result .held) (l .kept) (jobsOf (l .nodes) (l .shares) (l .jobs)) (s .pre .1 .due .jobs) (b .ensures .0) (b .ensures .1) (e .0) (e .1),
       (l .inv .1 .sized .nodes, l .inv .1 .sized .shares),
     )
