@@ -60,7 +60,8 @@ module _ {M : Type 1} {𝓤 : URA M} {H : Heap 𝓤} {A : Atoms 𝓤} (W : Given
   pub dropped : ToRoom 𝓤 H A row records
   dropped = rows-dropped W T.chunk 1024
 
-  -- the array that is lent, the pointer that is made, the slice that is passed, what is left of it after the call, and what the lender has meanwhile
+  -- the array that is lent, the pointer that is made, the slice that is passed, what is left of it after the call, and
+  -- what the lender has meanwhile
   pub whole : As 𝓤 H A row row (λ x. x)
   whole = as-is 𝓤 H A row
 

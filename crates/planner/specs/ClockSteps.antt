@@ -228,8 +228,8 @@ moved-is f t ls b hs k js q e₁ e₂ e₃ e₄ =
 
 -- ---- The jobs that wait on, moved up with their rows
 
--- where the loop over the waiting entries stands at place i: of the jobs before it those that start after t are in front,
--- and behind them the entries and their rows mean the old jobs
+-- where the loop over the waiting entries stands at place i: of the jobs before it those that start after t are in
+-- front, and behind them the entries and their rows mean the old jobs
 pub record WaitsOn (f : Farm) (t : ℕ) (ks xs : List ℕ) (hs : List QueueEntry) (kept i : ℕ) : Type 0 where
   pub within : i ≤ f .waiting
   pub some : kept ≤ i

@@ -1,5 +1,5 @@
-// A clock move and showing the timetable. First the answer, the next farm and the jobs whose lines are due are worked out
-// by value; then their lines are written to the memory that is lent.
+// A clock move and showing the timetable. First the answer, the next farm and the jobs whose lines are due are worked
+// out by value; then their lines are written to the memory that is lent.
 ghost use mathlib.Core.Bool.{true};
 ghost use mathlib.Core.Path.{_≡_};
 ghost use lib.ListN.{length};
@@ -41,9 +41,9 @@ pub struct Issue {
     pub reply: Reply,
 }
 
-// A clock move on a farm that passes question 11: questions 9 and 10 in that order, and what begins. The caller keeps the
-// farm, so that a move that begins nothing changes one figure of it. No cell is read; they are lent, since what is decided
-// is said of the whole farm.
+// A clock move on a farm that passes question 11: questions 9 and 10 in that order, and what begins. The caller keeps
+// the farm, so that a move that begins nothing changes one figure of it. No cell is read; they are lent, since what is
+// decided is said of the whole farm.
 pub fn move_unchecked<'a>(
     figures: Figures,
     nodes: &'a [u8; 8192],
@@ -80,8 +80,8 @@ pub fn move_unchecked<'a>(
     }
 }
 
-// The farm moved to `time`: what is due begins, in order of start, and the others keep the order that they have, each with
-// its cells.
+// The farm moved to `time`: what is due begins, in order of start, and the others keep the order that they have, each
+// with its cells.
 pub fn moved(
     figures: Figures,
     due: Due,

@@ -1,7 +1,7 @@
 -- `planner::clock::moved` meets its contract: the jobs kept so far stand in front of the old ones.
-use mathlib.Core.Path.{_≡_, refl}
+use mathlib.Core.Path.{refl}
 use mathlib.Core.Logic.{⊎-elim}
-use Prim.Native.Nat.{_+_, _-_, _≤_, _<_}
+use Prim.Native.Nat.{_+_, _-_, _≤_}
 use native.Mathlib.Omega.{arith}
 use Rattle.planner.specs.Model.{Farm, farmOf}
 use Rattle.planner.specs.Parts.{parts-sized}
@@ -9,7 +9,6 @@ use Rattle.planner.specs.ClockSteps.{moved-is, waiting-few, waiting-shor
 use Rattle.planner.specs.ClockSteps.{WaitsOn, waits-same, waits-first, waits-few, waits-past, waits-stay, waits-moved, waits-all}
 use Rattle.walk.specs.View.{jobsOf}
 use Rattle.planner.proofs.Sizes.{figures-sized}
-use borrow.Author.Needs.{needs}
 use Rattle.planner.proofs.clock.moved.Statement.{statement}
 use Rattle.planner.proofs.clock.moved.Tie as tie
 
@@ -52,8 +51,8 @@ row-moved-requires c κs =
     let l = c .before .before .before .before .before .before .before .loop in
     let x = l .inv .1 in
     let h = c .before .before .before .before .before .before .loop-test .taken in
-    let low : l .i < 128 = omega (arith, l .inv .0, h) in
-    (c .before .before .if2 .taken, low, waits-few f (a .time) (z .jobs) (l .inv .0) (l .nodes) (l .shares) (l .jobs) (l .kept) (l .i) x h (waiting-short f z (s .pre .1 .passes)), x .sized .nodes, x .sized .shares)
+    let few = waits-few f (a .time) (z .jobs) (l .inv .0) (l .nodes) (l .shares) (l .jobs) (l .kept) (l .i) x h (waiting-short f z (s .pre .1 .passes)) in
+    (omega (arith, c .before .before .if2 .taken), omega (arith, l .inv .0, h), omega (arith, few), x .sized .nodes, x .sized .shares)
 
 mul-jobs : tie.Need-mul-jobs Inv-loop μ-loop
 mul-jobs c = omega (arith, c .before .before .before .before .before .before .before .before .loop .inv .0, c .before .before .before .before .before .before .before .before .loop .inv .1 .some, c .before .before .before .before .before .before .before .loop-test .taken)
