@@ -141,13 +141,16 @@ module _ (F : Figures) (ks xs : List ℕ) (h : QueueEntry) (o : Offered (farmOf 
   -- What the walk of them starts from.
   pub queued-ready : (F .waiting + 1 ≤ 128) × (F .waiting < 128) × Ready (walkTermsOf (farmOf F ks xs)) (freeTimesOf (farmOf F ks xs)) (map bare (take (F .waiting + 1) (set (F .jobs) (F .waiting) h)))
   queued-ready =
-      let r = offer-ready f (bare h) o in
-      (omega (arith, o .waiting), o .waiting, record {
-        answered = r .answered;
-        costs = r .costs;
-        free = r .free;
-        jobs = subst (All Walkable) (sym entries-are) (all-image Walkable bared (waitingOf f ++ bare h ∷ []) (r .jobs));
-      })
+      let r = offer-ready f (bare h) o in (
+        omega (arith, o .waiting),
+        o .waiting,
+        record {
+          answered = r .answered;
+          costs = r .costs;
+          free = r .free;
+          jobs = subst (All Walkable) (sym entries-are) (all-image Walkable bared (waitingOf f ++ bare h ∷ []) (r .jobs));
+        },
+      )
 
   abbrev planOf : List Job
   planOf = plan (walkTermsOf f) (freeTimesOf f) (byDeadline (waitingOf f ++ bare h ∷ []))

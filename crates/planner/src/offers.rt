@@ -58,7 +58,16 @@ fn planned<'a>(
     let waiting = figures.waiting;
     let count = waiting + 1;
     let old = figures.jobs;
-    let plan = walked(terms, times, old, count, waiting, job, plan_nodes, plan_shares);
+    let plan = walked(
+        terms,
+        times,
+        old,
+        count,
+        waiting,
+        job,
+        plan_nodes,
+        plan_shares,
+    );
     let jobs = plan.jobs;
     if !plan.ok {
         return Decision {
@@ -155,7 +164,14 @@ pub fn offer_unchecked(
     let decision = decide_offer(figures, offer, nodes, shares, plan_nodes, plan_shares);
     if decision.granted {
         let jobs = decision.jobs;
-        rows_taken(nodes, shares, plan_nodes, plan_shares, jobs, decision.waiting);
+        rows_taken(
+            nodes,
+            shares,
+            plan_nodes,
+            plan_shares,
+            jobs,
+            decision.waiting,
+        );
     }
     decision
 }
