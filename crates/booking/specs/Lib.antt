@@ -10,3 +10,4 @@ pub mod Only
 pub mod Booked
 pub mod Steps
 pub mod Reranked
+pub mod Filling

@@ -139,6 +139,12 @@ decides-replies f s next d ks xs r e x = record {
       ∙ ap₂ (λ (p q : List ℕ). record { figures = f .figures; nodes = p; shares = q }) (rows .0) (rows .1);
 }
 
+-- An offer to a farm that does not pass is refused with 11.
+pub offer-unsound : (f : stored.Farm) (o : Offer) (r : Reply) → passesOf (meant f) ≡ false → r ≡ record { answer = answer.No question.Farm; farm = f }
+    → Replies f r (offerSaid (meant f) o) (offerFarm (meant f) o)
+unfolding offerSaid offerFarm
+offer-unsound f o r e h = let a = asked-farm (meant f) o e in refuses f r question.Farm _ _ h (rw a) (rw a)
+
 -- ---- What the functions of an offer promise each other
 
 -- What questions 6 and 7 say.

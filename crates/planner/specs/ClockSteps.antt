@@ -2,23 +2,28 @@
 use mathlib.Core.Path.{_≡_, refl, ap, ap₂, sym, subst, _∙_}
 use mathlib.Core.List.{List, [], _∷_, _++_, Permᴰ·symm}
 use mathlib.Core.Bool.{Bool, true, false, cond, not}
-use Prim.Native.Nat.{ℕ, suc, _-_, _≤_, _<_}
+use Prim.Native.Nat.{ℕ, zero, suc, _+_, _-_, _≤_, _<_}
 use native.Mathlib.Omega.{arith}
 use borrow.Author.Tests.{leb-true, le-leb, lt-leb, eqb-true, eq-eqb, ne-eqb}
 use lib.Dec.{leb, eqb}
-use lib.ListN.{length, getD, take, drop, take-append-drop, length-map}
+use lib.ListN.{length, getD, take, drop, set, take-append-drop, length-map}
 use lib.Seq.{take-at, length-take-le, getD-take}
-use Rattle.lists.specs.Laws.{All, all-map, all-both, all-front, all-take, perm-all, perm-length}
+use Rattle.lists.specs.Laws.{All, all-map, all-both, all-front, all-take, perm-all, perm-length, front-none}
+use Rattle.lists.specs.Fronts.{Kept, behind-same, kept-same, kept-all}
+use Rattle.lists.specs.Places.{eachAt}
 use Rattle.limits.specs.declared.FarmCosts.{FarmCosts}
 use Rattle.booking.specs.Best.{chosen}
 use Rattle.walk.specs.declared.Job.{Job}
+use Rattle.walk.specs.declared.QueueEntry.{QueueEntry}
 use Rattle.walk.specs.declared.FreeTimes.{FreeTimes}
 use Rattle.walk.specs.declared.Chunk.{Chunk}
 use Rattle.keys.specs.declared.Key.{Key}
 use Rattle.walk.specs.Order.{by-start-perm}
 use Rattle.walk.specs.Chunks.{Sendable}
 use Rattle.timetable.specs.declared.Due.{Due}
-use Rattle.timetable.specs.BeginSteps.{chunks, Few, RaisesAll}
+use Rattle.walk.specs.View.{jobAt, jobsOf, noEntry, Short}
+use Rattle.queue.specs.RowSteps.{QueueSized, MovedUp, job-there, count-few, sized-moved, kept-moved}
+use Rattle.timetable.specs.BeginSteps.{chunks, Few, RaisesAll, keep-next, keep-past}
 use Rattle.timetable.specs.DueSteps.{IsDue}
 use Rattle.timetable.specs.LinesSteps.{all-lines}
 use Rattle.lists.specs.Keep.{keep-all, keep-none, keep-every}
@@ -162,9 +167,20 @@ pub record Begins (f : Farm) (t : ℕ) (d : Due) : Type 0 where
   pub passes : passesOf f ≡ true
   pub due : IsDue (f .jobs) (f .waiting) t d
 
--- what is asked to find it
-pub due-asked : (f : Farm) → Sized f → passesOf f ≡ true → (f .waiting ≤ 128) × All Few (waitingOf f)
-due-asked f sized e = (waiting-few f sized e, can-begin-few f (waitingOf f) (waiting-can-begin f sized e))
+-- Where each job has few chunks so has each entry.
+few-entries : (ks xs : List ℕ) (a n : ℕ) (hs : List QueueEntry) → All Few (take n (eachAt (jobAt ks xs) a hs)) → All Short (take n hs)
+unfolding eachAt
+few-entries ks xs a zero hs h = tt
+few-entries ks xs a (suc n) [] h = tt
+few-entries ks xs a (suc n) (g ∷ hs) h = (h .0, few-entries ks xs (suc a) n hs (h .1))
+
+module _ (f : Farm) (sized : Sized f) (e : passesOf f ≡ true) where
+  pub waiting-short : All Few (waitingOf f)
+  waiting-short = can-begin-few f (waitingOf f) (waiting-can-begin f sized e)
+
+  -- what is asked to find it
+  pub due-asked : (ks xs : List ℕ) (hs : List QueueEntry) → f .jobs ≡ jobsOf ks xs hs → (f .waiting ≤ 128) × All Short (take (f .waiting) hs)
+  due-asked ks xs hs q = (waiting-few f sized e, few-entries ks xs 0 (f .waiting) hs (subst (λ (js : List Job). All Few (take (f .waiting) js)) q waiting-short))
 
 module _ (f : Farm) (t : ℕ) (d : Due) (sized : Sized f) (x : Begins f t d) where
   -- The jobs that the keys name.
@@ -209,6 +225,81 @@ moved-is f t ls b hs k js q e₁ e₂ e₃ e₄ =
     let h′ : hs ≡ raised (f .held) (issued f t) = e₂ ∙ ap (λ (l : List Job). raised (f .held) (linesOfAll (f .costs) l)) q in
     let j′ : js ≡ waitingOn f t ++ drop (length (waitingOn f t)) (f .jobs) = e₄ ∙ ap (λ (i : ℕ). waitingOn f t ++ drop i (f .jobs)) e₃ in
     rw (b′, h′, j′, e₃)
+
+-- ---- The jobs that wait on, moved up with their rows
+
+-- where the loop over the waiting entries stands at place i: of the jobs before it those that start after t are in
+-- front, and behind them the entries and their rows mean the old jobs
+pub record WaitsOn (f : Farm) (t : ℕ) (ks xs : List ℕ) (hs : List QueueEntry) (kept i : ℕ) : Type 0 where
+  pub within : i ≤ f .waiting
+  pub some : kept ≤ i
+  pub sized : QueueSized ks xs hs
+  pub left : Kept 128 (waitingOn f t) (f .jobs) (jobsOf ks xs hs) kept (keep (startsAfter t) (drop i (waitingOf f)))
+
+-- What is the same stands the same.
+pub waits-same : {f : Farm} {t : ℕ} {ks xs ks′ xs′ : List ℕ} {hs hs′ : List QueueEntry} {kept kept′ i : ℕ} → ks′ ≡ ks → xs′ ≡ xs → hs′ ≡ hs → kept′ ≡ kept → WaitsOn f t ks xs hs kept i
+    → WaitsOn f t ks′ xs′ hs′ kept′ i
+waits-same e₁ e₂ e₃ e₄ x = rw (e₁, e₂, e₃, e₄) x
+
+module _ (f : Farm) (t : ℕ) (size : length (f .jobs) ≡ 128) (most : f .waiting ≤ 128) (ks xs : List ℕ) (hs : List QueueEntry) where
+  pub waits-first : f .jobs ≡ jobsOf ks xs hs → QueueSized ks xs hs → WaitsOn f t ks xs hs 0 0
+  waits-first q s = record { within = omega arith; some = omega arith; sized = s; left = record { size = ap length (sym q) ∙ size; front = refl; behind = sym q } }
+
+  module _ (kept i : ℕ) (x : WaitsOn f t ks xs hs kept i) where
+    -- At the end they are all in front.
+    pub waits-all : f .waiting ≤ i → (kept ≡ length (waitingOn f t)) × (jobsOf ks xs hs ≡ waitingOn f t ++ drop kept (f .jobs))
+    unfolding keep
+    waits-all h =
+        kept-all 128 (waitingOn f t) (f .jobs) (jobsOf ks xs hs) kept (omega (arith, x .some, x .within))
+        (subst (λ (js : List Job). Kept 128 (waitingOn f t) (f .jobs) (jobsOf ks xs hs) kept (keep (startsAfter t) js)) (front-none (f .jobs) (f .waiting) i (omega arith) h) (x .left))
+
+    module _ (h : i < f .waiting) where
+      same : getD (jobsOf ks xs hs) i noJob ≡ getD (f .jobs) i noJob
+      same = behind-same noJob (jobsOf ks xs hs) (f .jobs) kept i (x .some) (x .left .behind)
+
+      starts : getD (f .jobs) i noJob .booking .start ≡ getD hs i noEntry .start
+      starts = ap (λ (j : Job). j .booking .start) (sym same ∙ job-there ks xs hs i (omega (arith, x .sized .entries)))
+
+      -- The entry there has few chunks.
+      pub waits-few : All Few (waitingOf f) → getD hs i noEntry .count ≤ 64
+      waits-few a = count-few ks xs hs (f .jobs) (f .waiting) kept i (x .some) h (omega arith) (omega (arith, x .sized .entries)) (x .left .behind) a
+
+      -- It starts by t: it is left out.
+      pub waits-past : getD hs i noEntry .start ≤ t → WaitsOn f t ks xs hs kept (i + 1)
+      waits-past k = record {
+        within = omega arith;
+        some = omega (arith, x .some);
+        sized = x .sized;
+        left = subst (Kept 128 (waitingOn f t) (f .jobs) (jobsOf ks xs hs) kept) (keep-past (f .jobs) (f .waiting) i h (omega arith) t (omega (arith, starts))) (x .left);
+      }
+
+      module _ (k : t < getD hs i noEntry .start) where
+        next : Kept 128 (waitingOn f t) (f .jobs) (jobsOf ks xs hs) kept (getD (jobsOf ks xs hs) i noJob ∷ keep (startsAfter t) (drop (i + 1) (waitingOf f)))
+        next =
+            subst (Kept 128 (waitingOn f t) (f .jobs) (jobsOf ks xs hs) kept)
+            (keep-next (f .jobs) (f .waiting) i h (omega arith) t (omega (arith, starts)) ∙ ap (λ (j : Job). j ∷ keep (startsAfter t) (drop (i + 1) (waitingOf f))) (sym same)) (x .left)
+
+        -- It starts later: it stays where it is, where none is left out yet,
+        pub waits-stay : i ≤ kept → WaitsOn f t ks xs hs (kept + 1) (i + 1)
+        waits-stay g =
+            let e : i ≡ kept = omega (arith, x .some) in
+            record {
+              within = omega arith;
+              some = omega (arith, x .some);
+              sized = x .sized;
+              left = kept-same noJob 128 (waitingOn f t) (f .jobs) (jobsOf ks xs hs) kept _ (omega arith)
+                  (subst (λ (n : ℕ). Kept 128 (waitingOn f t) (f .jobs) (jobsOf ks xs hs) kept (getD (jobsOf ks xs hs) n noJob ∷ keep (startsAfter t) (drop (i + 1) (waitingOf f)))) e next);
+            }
+
+        -- and moves up with its row behind one that is.
+        pub waits-moved : (ks′ xs′ : List ℕ) → All Few (waitingOf f) → kept < i → MovedUp kept i (getD hs i noEntry .count) ks xs ks′ xs′
+            → WaitsOn f t ks′ xs′ (set hs kept (getD hs i noEntry)) (kept + 1) (i + 1)
+        waits-moved ks′ xs′ a g m = record {
+          within = omega arith;
+          some = omega arith;
+          sized = sized-moved ks xs ks′ xs′ hs kept i (getD hs i noEntry .count) g (omega arith) (x .sized) refl (waits-few a) m;
+          left = kept-moved ks xs ks′ xs′ hs kept i (getD hs i noEntry .count) g (omega arith) (x .sized) refl (waits-few a) m (waitingOn f t) (f .jobs) _ next;
+        }
 
 -- what a move on a farm that passes comes to before its lines are written
 pub record MoveDecides (f : Farm) (t n : ℕ) (r : Move) : Type 0 where

@@ -2,15 +2,24 @@
 // one back. What each call means is in specs/Calls.antt and specs/Clock.antt.
 
 mod calls;
+mod clock;
+mod offers;
 mod passing;
+mod quote;
+mod withdraw;
 
 use answers::Answer;
 pub use calls::account_unchecked;
 pub use calls::open_figures;
+pub use clock::move_unchecked;
+pub use clock::moved;
 use limits::FarmCosts;
+pub use offers::offer_unchecked;
+pub use quote::quote_unchecked;
 use timetable::Due;
 use walk::Chunk;
 use walk::QueueEntry;
+pub use withdraw::withdraw_unchecked;
 
 // The figures of a farm: all but the cells of its bookings. The first `shows` allowances and held ticks, the first `nodes`
 // free times and the first `waiting` jobs count; what stands past them is not looked at.
@@ -72,15 +81,4 @@ pub struct Move {
 pub struct Timetable {
     pub reply: Reply,
     pub lines: [Chunk; 1024],
-}
-
-pub mod clock {
-    use crate::Reply;
-    use walk::Job;
-
-    pub struct Issue {
-        pub count: usize,
-        pub jobs: [Job; 128],
-        pub reply: Reply,
-    }
 }

@@ -157,7 +157,7 @@ module _ (c : Costs) (sends : 1 ≤ c .send) where
       same e = rw e (omega arith)
 
   -- A shorter window has no larger first share.
-  first-mono : {v w : ℕ} → v ≤ w → first c v ≤ first c w
+  pub first-mono : {v w : ℕ} → v ≤ w → first c v ≤ first c w
   first-mono {v} {w} h = elim (decLe 1 (first c v)) [ yes k ↦ first-most w (first c v) (omega (arith, first-fits v k)) | no k ↦ omega arith ]
 
   -- If not even 1 fits, the first node holds 0 and so do the rest.
@@ -169,7 +169,7 @@ module _ (c : Costs) (sends : 1 ≤ c .send) where
       let s : v - (c .linksetup + first c v * c .send) ≤ w = omega arith in
       omega (arith, none-fits n w (v - (c .linksetup + first c v * c .send)) e s)
 
-  left-shorter : (w a : ℕ) → left c w a ≤ w
+  pub left-shorter : (w a : ℕ) → left c w a ≤ w
   unfolding left
   left-shorter w a = omega arith
 

@@ -9,6 +9,8 @@ pub mod OrderSteps
 pub mod Chunks
 pub mod WalkSteps
 pub mod NodeOrder
+pub mod Writing
 pub mod BestWalk
 pub mod Plan
 pub mod Walking
+pub mod Bared

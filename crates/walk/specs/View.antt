@@ -9,9 +9,9 @@ use native.Mathlib.Numerals.{add-one}
 use native.Mathlib.Omega.{arith}
 use lib.Dec.{leb}
 use lib.ListN.{length, getD, take, drop, set, replicate, length-drop, length-append, length-replicate, length-map}
-use lib.Seq.{take-take, take-all, length-take-le, getD-take, getD-drop, take-suc, take-suc-set, set-at, append-snoc, take-append-le}
+use lib.Seq.{take-take, take-all, length-take-le, getD-take, take-suc, take-suc-set, set-at, append-snoc, take-append-le}
 use Rattle.lists.specs.Laws.{All}
-use Rattle.lists.specs.Places.{eachAt, each-length, each-set, each-get, each-front, each-same, each-drop, each-take}
+use Rattle.lists.specs.Places.{eachAt, each-length, each-set, each-get, each-front, each-same}
 use Rattle.lists.specs.Rows.{rowAt, rowPut, rowMoved, Elsewhere, Behind, Alike, put-size, put-front, put-elsewhere, moved-front, moved-elsewhere, cell-in}
 use Rattle.shares.specs.Model.{earliest}
 use Rattle.shares.specs.Optimal.{greedy-length}

@@ -1,6 +1,6 @@
 -- What `walked` starts from and comes to, and its loop's steps, one job each.
 use mathlib.Core.Path.{_≡_, ap, sym, _∙_}
-use mathlib.Core.List.{List, [], _∷_, _++_, append-assoc}
+use mathlib.Core.List.{List, [], _∷_, _++_, append-assoc, map}
 use mathlib.Core.Bool.{true, _&&_}
 use borrow.Author.Tests.{leb-true}
 use Prim.Native.Nat.{ℕ, _+_, _≤_, _<_}
@@ -23,7 +23,9 @@ use Rattle.walk.specs.declared.Job.{Job}
 use Rattle.walk.specs.declared.WalkTerms.{WalkTerms}
 use Rattle.walk.specs.declared.FreeTimes.{FreeTimes}
 use Rattle.walk.specs.declared.Plan.{Plan}
+use Rattle.walk.specs.declared.QueueEntry.{QueueEntry}
 use Rattle.walk.specs.Model.{greatest, noJob, defaultCosts, linesOf, byDeadline, requestOf, step, freeTimesAfter, plan, booksAll, InTurn}
+use Rattle.walk.specs.View.{bare, jobsOf, Short}
 use Rattle.walk.specs.Chain.{afters-length}
 use Rattle.walk.specs.Chunks.{Sendable, finish-shares}
 
@@ -38,10 +40,16 @@ pub record Ready (w : WalkTerms) (b : FreeTimes) (js : List Job) : Type 0 where
   pub free : All (λ (t : ℕ). t ≤ greatest) (take (w .nodes) (b .free))
   pub jobs : All Walkable js
 
--- what the walk of the first n of these jobs comes to
-pub record Walked (w : WalkTerms) (b : FreeTimes) (jobs : List Job) (n : ℕ) (r : Plan) : Type 0 where
-  pub books : r .ok ≡ booksAll w b (byDeadline (take n jobs))
-  pub plans : r .ok ≡ true → r .jobs ≡ plan w b (byDeadline (take n jobs)) ++ drop n jobs
+-- what the walk of the first n of these jobs comes to, with rows of cells for it: where all are booked, the first n
+-- entries with these rows are the plan, and the entries behind them are as they were
+pub record Walked (w : WalkTerms) (b : FreeTimes) (jobs : List QueueEntry) (n : ℕ) (r : Plan) (ks xs : List ℕ) : Type 0 where
+  pub books : r .ok ≡ booksAll w b (byDeadline (map bare (take n jobs)))
+  pub plans : r .ok ≡ true → take n (jobsOf ks xs (r .jobs)) ≡ plan w b (byDeadline (map bare (take n jobs)))
+  pub few : r .ok ≡ true → All Short (take n (r .jobs))
+  pub rest : r .ok ≡ true → drop n (r .jobs) ≡ drop n jobs
+  pub size : length (r .jobs) ≡ 128
+  pub nodes-size : length ks ≡ 8192
+  pub shares-size : length xs ≡ 8192
 
 -- each job has a feasible booking behind those before it
 abbrev pub FeasibleAll : WalkTerms → FreeTimes → List Job → Type 0
