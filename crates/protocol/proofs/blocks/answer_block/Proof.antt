@@ -290,7 +290,7 @@ enum-known-query-2 : tie.Need-enum-known-query-2 Inv-loop μ-loop
 enum-known-query-2 c = search needs
 
 quote-unchecked-requires : tie.Need-quote-unchecked-requires Inv-loop μ-loop
-quote-unchecked-requires c κs = let n = c .before .before .before .before .before .before .before .before .before .before in (cells (turn n), plan-cells (turn n), passes n (order-turn n (c .before .before .before .before .before .before .before .before .order .given .1)))
+quote-unchecked-requires c κs = let n = c .before .before .before .before .before .before .before .before .before .before in (plan-cells (turn n), passes n (order-turn n (c .before .before .before .before .before .before .before .before .order .given .1)))
 
 put-answer-requires : tie.Need-put-answer-requires Inv-loop μ-loop
 put-answer-requires c κs = omega (arith, room (turn (c .before .before .before .before .before)))
