@@ -102,7 +102,10 @@ pub fn answer_block(
         if end == block.len() {
             let line = with_bytes(rest, block, next, end);
             return Progress {
-                session: Session { figures, rest: line },
+                session: Session {
+                    figures,
+                    rest: line,
+                },
                 next: end,
                 written: at,
             };
