@@ -34,7 +34,6 @@ use mathlib.Core.List.{List, [], _∷_, _++_, map, map-map, List·Memᴰ, List·
 use mathlib.Core.Bool.{Bool, true, false, cond, _&&_}
 use mathlib.Core.Logic.{_⊎_, inl, inr, ⊎-elim}
 use Prim.Native.Nat.{ℕ, zero, suc, _+_, _-_, _≤_, _<_, max}
-use native.Mathlib.Nat.{mul-le-mul-right}
 use native.Mathlib.Omega.{arith}
 use borrow.Author.Tests.{eqb-true, eqb-false}
 use lib.Dec.{eqb}
@@ -47,7 +46,7 @@ use Rattle.walk.specs.declared.Job.{Job}
 use Rattle.walk.specs.declared.FreeTimes.{FreeTimes}
 use Rattle.walk.specs.declared.Chunk.{Chunk}
 use Rattle.answers.specs.declared.Offer.{Offer}
-use Rattle.planner.specs.Model.{Farm, mostHeld, between, costsWithin, ownCosts, Span, linesOf, spansOf, spansOfAll, Sized, after, afters, byDeadline, byStart, plan, waitingOf, freeTimesOf, walkTermsOf, Between, Apart}
+use Rattle.planner.specs.Model.{Farm, mostHeld, between, costsWithin, Span, linesOf, spansOf, spansOfAll, Sized, after, afters, byDeadline, byStart, plan, waitingOf, freeTimesOf, walkTermsOf, Between, Apart}
 use Rattle.planner.specs.Passes.{passesOf}
 use Rattle.walk.specs.Chain.{Fits, Chain, chain-append, Proper, free-same, free-other, after-length, chain-apart, finish-after-start}
 use Rattle.walk.specs.Order.{by-start-perm}

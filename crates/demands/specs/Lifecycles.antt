@@ -18,7 +18,7 @@ use Rattle.walk.specs.declared.Chunk.{Chunk}
 use Rattle.answers.specs.declared.Offer.{Offer}
 use Rattle.walk.specs.declared.ChunkTerms.{ChunkTerms}
 use Rattle.walk.specs.Model.{chunkTerms, chunkOn}
-use Rattle.planner.specs.Model.{Farm, costsFor, ownCosts, Span, chunksFrom, linesOf, spansOfAll, Sized, waitingOf, freeTimesOf, walkTermsOf, byDeadline, plan}
+use Rattle.planner.specs.Model.{Farm, ownCosts, Span, chunksFrom, linesOf, spansOfAll, Sized, waitingOf, freeTimesOf, walkTermsOf, byDeadline, plan}
 use Rattle.planner.specs.Passes.{passesOf}
 use Rattle.walk.specs.Chain.{chunks-finish}
 use Rattle.walk.specs.Chunks.{lines-each}

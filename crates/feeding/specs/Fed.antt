@@ -1,4 +1,5 @@
--- What a block leaves of a day: the farm and the pending line are those of feeding all of it, however often its answers were written on the way.
+-- What a block leaves of a day: the farm and the pending line are those of feeding all of it, however often its answers
+-- were written on the way.
 use mathlib.Core.Path.{_≡_, refl, ap, ap₂, sym, subst, _∙_}
 use mathlib.Core.List.{List, []}
 use mathlib.Core.Bool.{true, false}

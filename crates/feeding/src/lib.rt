@@ -1,5 +1,5 @@
-// Days that come through a file descriptor: read in blocks, answered by the crate protocol, and the answers written. A failed read or
-// write ends a day, and says so in one line on standard error.
+// Days that come through a file descriptor: read in blocks, answered by the crate protocol, and the answers written. A
+// failed read or write ends a day, and says so in one line on standard error.
 ghost use lib.ListN.{length};
 ghost use Rattle.planner.specs.Model.{farmOf};
 ghost use Rattle.planner.specs.Parts.{CellsSized};
@@ -16,8 +16,8 @@ pub struct Sent {
     pub ok: bool,
 }
 
-// Answers a block. The answers are handed to the output at its end, and before it where `out` is full. It gives up only behind answers that
-// could not be written.
+// Answers a block. The answers are handed to the output at its end, and before it where `out` is full. It gives up only
+// behind answers that could not be written.
 fn answer_all(
     output: i32,
     session: Session,
@@ -108,9 +108,9 @@ fn end(
     }
 }
 
-// A day from `input` to `output`. One read a turn, so that lines that come one by one are answered as they come. The turns are counted
-// down from a number that no run uses up, since a proved loop has to end. The timetable's records and the cells of the farm
-// and of a plan are made once, and lent to every block.
+// A day from `input` to `output`. One read a turn, so that lines that come one by one are answered as they come. The
+// turns are counted down from a number that no run uses up, since a proved loop has to end. The timetable's records and
+// the cells of the farm and of a plan are made once, and lent to every block.
 pub fn answer_stream(input: i32, output: i32) {
     let mut block = io::large_buffer();
     let mut out = [0u8; 262144];

@@ -1,4 +1,4 @@
--- What commands and queries print and leave, the answer of a clock move and the records that it is lent, for src/blocks.rt.
+-- What commands and queries print and leave, a clock move's answer and the records that it is lent, for src/blocks.rt.
 use mathlib.Core.Path.{_≡_, refl, ap, ap₂, sym, subst, _∙_}
 use mathlib.Core.List.{List, [], _++_, map}
 use mathlib.Core.Bool.{Bool, true, false, cond}

@@ -1,4 +1,5 @@
--- What the functions promise each other and rely on; what a line is answered and what the bytes of a block come to is in the crate lines.
+-- What the functions promise each other and rely on; what a line is answered and what the bytes of a block come to is
+-- in the crate lines.
 pub mod Promises
 pub mod Reachable
 pub mod CallSteps

@@ -13,8 +13,8 @@ use Rattle.lines.specs.Feeding.{stretch}
 use Rattle.lines.specs.Rows.{pendingOf}
 use Rattle.lines.specs.AnswerLines.{largest}
 
--- a block from a place on, fed to a day so far, its farm and its pending line: it stops at its end, or where the room left
--- may not hold the next answer. The farm then is that of the figures and these rows of cells
+-- a block from a place on, fed to a day so far, its farm and its pending line: it stops at its end, or where the room
+-- left may not hold the next answer. The farm then is that of the figures and these rows of cells
 pub record Took (f : Farm) (p : Pending) (block : List ℕ) (from : ℕ) (entry exit : List ℕ) (r : Progress) (ks xs : List ℕ) : Type 0 where
   pub onward : from ≤ r .next
   pub inside : from ≤ length block → r .next ≤ length block

@@ -1,4 +1,5 @@
--- The farm of a day: not opened, or reached by a granted opening and calls. Every line keeps it so, and a call on it need not ask question 11.
+-- The farm of a day: not opened, or reached by a granted opening and calls. Every line keeps it so, and a call on it
+-- need not ask question 11.
 use mathlib.Core.Path.{_≡_, refl, sym, _∙_}
 use mathlib.Core.List.{List, [], _∷_}
 use mathlib.Core.Bool.{Bool, true, false, cond, false≢true}

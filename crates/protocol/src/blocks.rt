@@ -60,10 +60,10 @@ pub fn start() -> Session
     }
 }
 
-// Answers the lines of a block from place `from` on, at the front of `out`. It stops at the block's end, where the rest of an
-// unfinished line is kept, or where `out` may not hold the next answer. The farm was reached by an opening and calls, so
-// question 11 is not asked again. It is changed where it stands: a function that took it and handed it back would copy it.
-// An offer and a quote are lent the plan's cells and a clock move `rows`, in which nothing is kept.
+// Answers the lines of a block from place `from` on, at the front of `out`. It stops at the block's end, where the rest
+// of an unfinished line is kept, or where `out` may not hold the next answer. The farm was reached by an opening and
+// calls, so question 11 is not asked again. It is changed where it stands: a function that took it and handed it back
+// would copy it. An offer and a quote are lent the plan's cells and a clock move `rows`, in which nothing is kept.
 pub fn answer_block(
     session: Session,
     block: &[u8],
@@ -182,7 +182,8 @@ pub fn answer_block(
     }
 }
 
-// The end of the input: what is pending is a line if it is not empty. It writes nothing where `out` may not hold the answer.
+// The end of the input: what is pending is a line if it is not empty. It writes nothing where `out` may not hold the
+// answer.
 pub fn end_of_input(
     session: Session,
     rows: &mut [[u64; 8]; 1024],

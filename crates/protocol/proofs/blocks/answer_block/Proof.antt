@@ -1,8 +1,8 @@
--- `protocol::blocks::answer_block` meets its contract: the farm is reachable, so that it passes question 11 once it is opened.
+-- `protocol::blocks::answer_block` meets its contract: the farm is reachable, so it passes question 11 once opened.
 use borrow.Author.Needs.{needs}
 use mathlib.Core.Path.{_≡_, refl, ap, sym, subst, _∙_}
 use mathlib.Core.Logic.{⊎-elim}
-use mathlib.Core.Bool.{Bool, true}
+use mathlib.Core.Bool.{true}
 use mathlib.Core.List.{List}
 use Prim.Native.Nat.{ℕ, _+_, _-_, _≤_, _<_}
 use native.Mathlib.Omega.{arith}
@@ -12,7 +12,6 @@ use Rattle.search.specs.Laws.{next-within}
 use Rattle.text.specs.Writing.{WroteWithin, within-same}
 use Rattle.reading.specs.declared.Row.{Row}
 use Rattle.planner.specs.declared.Move.{Move}
-use Rattle.planner.specs.declared.Decision.{Decision}
 use Rattle.planner.specs.declared.Figures.{Figures}
 use Rattle.planner.specs.Model.{Farm, farmOf, Sized}
 use Rattle.planner.specs.Passes.{passesOf}
@@ -43,7 +42,8 @@ abbrev μ-loop : tie.MeasureT-loop
 
 -- ---- Places in the loop
 
--- The types that a function goes between. A need goes from the place where it stands, and so names the type of that place and of those before it.
+-- The types that a function goes between. A need goes from the place where it stands, and so names the type of that
+-- place and of those before it.
 abbrev From : {A : Type 0} {B : A → Type 0} → ((x : A) → B x) → Type 0
 From {A} {B} f = A
 

@@ -12,11 +12,8 @@ use Rattle.protocol.proofs.Sizes.{rest-length}
 use Rattle.protocol.proofs.blocks.end_of_input.Statement.{statement}
 use Rattle.protocol.proofs.blocks.end_of_input.Tie as tie
 
--- where the function is entered, and the farm that it is given
-abbrev Entry : Type 0
-Entry = tie.Start
-
-abbrev given : Entry → Farm
+-- the farm that it is given
+abbrev given : tie.Start → Farm
 given e = farmOf (e .args .session .figures) (e .args .nodes .now) (e .args .shares .now)
 
 returns : tie.Need-returns
