@@ -56,7 +56,7 @@ row-moved-requires c κs =
     let up = c .before .before .if1 .taken in (
       up,
       omega (arith, l .inv .0, t .loop-test .taken),
-      leave-few (a .number) old (a .figures .waiting) full (l .inv .0) (l .nodes) (l .shares) (l .jobs) (l .kept) (l .i) (t .loop-test .taken) (l .inv .1) (l .inv .2) up (passes-few (farmOf (a .figures) (a .nodes .now) (a .shares .now)) (s .pre .1)),
+      omega (arith, leave-few (a .number) old (a .figures .waiting) full (l .inv .0) (l .nodes) (l .shares) (l .jobs) (l .kept) (l .i) (t .loop-test .taken) (l .inv .1) (l .inv .2) up (passes-few (farmOf (a .figures) (a .nodes .now) (a .shares .now)) (s .pre .1))),
       l .inv .1 .nodes,
       l .inv .1 .shares,
     )
