@@ -2,10 +2,9 @@
 -- of the number; where all are, no row has moved.
 use borrow.Author.Needs.{needs}
 use mathlib.Core.Logic.{⊎-elim}
-use mathlib.Core.Path.{_≡_, refl, sym, _∙_}
-use Prim.Native.Nat.{ℕ, _+_, _-_, _≤_, _<_}
+use mathlib.Core.Path.{_≡_, refl, _∙_}
+use Prim.Native.Nat.{_-_, _≤_}
 use native.Mathlib.Omega.{arith}
-use lib.ListN.{length}
 use Rattle.lists.specs.Places.{each-length}
 use Rattle.walk.specs.View.{jobAt, jobsOf}
 use Rattle.queue.specs.Steps.{Leaving, leave-start, leave-end}
