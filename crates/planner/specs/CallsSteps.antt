@@ -6,7 +6,7 @@ use Prim.Native.Nat.{ℕ, suc, _+_, _-_, _≤_, _<_}
 use native.Mathlib.Omega.{arith}
 use native.Mathlib.Numerals.{add-one}
 use borrow.Author.Tests.{ltb-true, leb-true, ne-eqb}
-use lib.Dec.{leb, ltb, eqb}
+use lib.Dec.{leb, ltb}
 use lib.ListN.{length, getD, take, drop, set, replicate}
 use lib.Seq.{take-suc-set, take-suc, drop-set-lt, drop-drop}
 use Rattle.lists.specs.Laws.{all-join, all-map, perm-all}
@@ -29,7 +29,7 @@ use Rattle.planner.specs.Model.{Farm, farmOf, meant, greatest, between, 
 use Rattle.planner.specs.Passes.{passesOf}
 use Rattle.planner.specs.PassesSteps.{passes-within, passes-jobs}
 use Rattle.planner.specs.Parts.{withEntries, newFigures, unopenedFigures, new-means, OpensFigures, decidedFigures, Decides}
-use Rattle.planner.specs.Calls.{Account, Said, said, granted, refused, numberOf, Replies, unopened, openedWith, showsWithin, openSaid, openFarm, heldBy, allowanceOf, accountSaid, computeOf, asksOffer, offerAsked, offerSaid, offerFarm, asQuote, quoteSaid}
+use Rattle.planner.specs.Calls.{Account, Said, said, granted, refused, numberOf, Replies, unopened, showsWithin, openSaid, openFarm, heldBy, allowanceOf, accountSaid, computeOf, asksOffer, offerAsked, offerSaid, offerFarm, asQuote, quoteSaid}
 
 -- ---- Opening
 

@@ -21,9 +21,9 @@ use Rattle.keys.specs.declared.Key.{Key}
 use Rattle.walk.specs.Order.{by-start-perm}
 use Rattle.walk.specs.Chunks.{Sendable}
 use Rattle.timetable.specs.declared.Due.{Due}
-use Rattle.walk.specs.View.{jobAt, jobsOf, noEntry, Short}
-use Rattle.queue.specs.RowSteps.{QueueSized, MovedUp, job-there, count-few, sized-moved, kept-moved}
-use Rattle.timetable.specs.BeginSteps.{chunks, Few, RaisesAll, keep-next, keep-past}
+use Rattle.walk.specs.View.{jobAt, jobsOf, noEntry, Short, Few, job-there}
+use Rattle.queue.specs.RowSteps.{QueueSized, MovedUp, count-few, sized-moved, kept-moved}
+use Rattle.timetable.specs.BeginSteps.{chunks, RaisesAll, keep-next, keep-past}
 use Rattle.timetable.specs.DueSteps.{IsDue}
 use Rattle.timetable.specs.LinesSteps.{all-lines}
 use Rattle.lists.specs.Keep.{keep-all, keep-none, keep-every}

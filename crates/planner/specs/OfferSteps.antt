@@ -11,16 +11,14 @@ use lib.ListN.{length, getD, take, drop, set, length-append}
 use lib.Seq.{take-suc-set, drop-set-lt, length-take-le, getD-take}
 use Rattle.lists.specs.Laws.{All, all-nth, all-map, all-image, map-join, mem-image, mem-right, perm-length, perm-mem}
 use Rattle.limits.specs.Says.{between-is}
-use Rattle.booking.specs.Model.{bookingOf}
 use Rattle.walk.specs.declared.Job.{Job}
 use Rattle.walk.specs.declared.WalkTerms.{WalkTerms}
 use Rattle.walk.specs.declared.FreeTimes.{FreeTimes}
 use Rattle.walk.specs.declared.QueueEntry.{QueueEntry}
 use Rattle.walk.specs.declared.Plan.{Plan}
-use Rattle.walk.specs.View.{noEntry, jobAt, jobsOf, bare, bared, plan-bared, books-bared}
-use Rattle.walk.specs.Bared.{deadline-bared, entries-bared, taken-plan}
+use Rattle.walk.specs.View.{noEntry, jobAt, jobsOf, bare, bared, job-there}
+use Rattle.walk.specs.Bared.{plan-by-bared, books-by-bared, entries-bared, taken-plan}
 use Rattle.walk.specs.WalkSteps.{Walkable, Ready, Walked, books-feasible}
-use Rattle.queue.specs.RowSteps.{job-there}
 use Rattle.lists.specs.Places.{eachAt, each-length, each-drop}
 use Rattle.planner.specs.declared.Figures.{Figures}
 use Rattle.planner.specs.declared.Decision.{Decision}
@@ -92,13 +90,6 @@ pub planned-count : (w : WalkTerms) (b : FreeTimes) (js : List Job) → length (
 planned-count w b js = plan-length w b (byDeadline js) ∙ sym (perm-length (by-deadline-perm js))
 
 -- ---- Bookings are not looked at
-
--- The walk of jobs is that of the jobs with their bookings left out.
-plan-by-bared : (w : WalkTerms) (b : FreeTimes) (js : List Job) → plan w b (byDeadline js) ≡ plan w b (byDeadline (map bared js))
-plan-by-bared w b js = sym (plan-bared w b (byDeadline js)) ∙ ap (plan w b) (sym (deadline-bared js))
-
-books-by-bared : (w : WalkTerms) (b : FreeTimes) (js : List Job) → booksAll w b (byDeadline js) ≡ booksAll w b (byDeadline (map bared js))
-books-by-bared w b js = sym (books-bared w b (byDeadline js)) ∙ ap (booksAll w b) (sym (deadline-bared js))
 
 module _ (f : Farm) (j : Job) where
   one-bared : map bared (waitingOf f ++ j ∷ []) ≡ map bared (waitingOf f ++ bared j ∷ [])

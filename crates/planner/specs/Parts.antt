@@ -12,7 +12,6 @@ use Rattle.lists.specs.Rows.{Alike}
 use Rattle.limits.specs.declared.FarmCosts.{FarmCosts}
 use Rattle.walk.specs.declared.Job.{Job}
 use Rattle.walk.specs.declared.QueueEntry.{QueueEntry}
-use Rattle.walk.specs.declared.FreeTimes.{FreeTimes}
 use Rattle.walk.specs.View.{noEntry, jobAt, Short, useOf, jobs-sized, empty-jobs}
 use Rattle.planner.specs.declared.Figures.{Figures}
 use Rattle.planner.specs.declared.Opening.{Opening}
@@ -37,23 +36,6 @@ withEntries f u n hs = record {
   used = u;
   waiting = n;
   jobs = hs;
-}
-
--- figures at the tick t, with these free times and held ticks
-abbrev pub figuresAt : Figures → ℕ → FreeTimes → List ℕ → Figures
-figuresAt f t b held = record {
-  opened = f .opened;
-  nodes = f .nodes;
-  costs = f .costs;
-  shows = f .shows;
-  allowances = f .allowances;
-  held = held;
-  clock = t;
-  link = b .link;
-  free = b .free;
-  used = f .used;
-  waiting = f .waiting;
-  jobs = f .jobs;
 }
 
 -- a value of the declared type has arrays of these lengths

@@ -1,5 +1,5 @@
 -- A withdrawal from a farm that passes question 11: what the functions of src/withdraw.rt promise each other.
-use mathlib.Core.Path.{_≡_, refl, ap, ap₂, sym, subst, _∙_}
+use mathlib.Core.Path.{_≡_, refl, ap, ap₂, sym, _∙_}
 use mathlib.Core.List.{List, _++_}
 use mathlib.Core.Bool.{Bool, true, false, false≢true}
 use Prim.Native.Nat.{ℕ, _≤_}
@@ -8,10 +8,8 @@ use lib.ListN.{length, drop}
 use lib.Seq.{length-take-le}
 use Rattle.lists.specs.Laws.{All, all-map, perm-length}
 use Rattle.lists.specs.Places.{each-length}
-use Rattle.walk.specs.declared.Job.{Job}
 use Rattle.walk.specs.declared.QueueEntry.{QueueEntry}
-use Rattle.walk.specs.View.{jobAt, jobsOf}
-use Rattle.queue.specs.RowSteps.{FewChunks}
+use Rattle.walk.specs.View.{jobAt, jobsOf, Few}
 use Rattle.queue.specs.Numbers.{without-perm, without-none}
 use Rattle.planner.specs.declared.Figures.{Figures}
 use Rattle.planner.specs.declared.Farm as stored
@@ -27,7 +25,7 @@ use Rattle.planner.specs.Parts.{CellsSized, Decides}
 use Rattle.planner.specs.CallsSteps.{refuses}
 
 -- No waiting job of a farm that passes has more chunks than a row has cells.
-pub passes-few : (f : Farm) → passesOf f ≡ true → All FewChunks (waitingOf f)
+pub passes-few : (f : Farm) → passesOf f ≡ true → All Few (waitingOf f)
 passes-few f e = all-map (λ j a. a .0 .count .1) (waitingOf f) (passes-jobs f e)
 
 -- What is left of the jobs of a farm: the first `kept` entries with their rows are those without the number.

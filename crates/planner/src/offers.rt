@@ -162,7 +162,8 @@ pub fn offer_unchecked(
     ensures { λ r. ⌜ Decides figures (now (nodes .entry)) (now (shares .entry)) (offerSaid (farmOf figures (now (nodes .entry)) (now (shares .entry))) offer) (offerFarm (farmOf figures (now (nodes .entry)) (now (shares .entry))) offer) r (now (nodes .exit)) (now (shares .exit)) × CellsSized (now («plan_nodes» .exit)) (now («plan_shares» .exit)) ⌝ }
 {
     let decision = decide_offer(figures, offer, nodes, shares, plan_nodes, plan_shares);
-    if decision.granted {
+    let granted = decision.granted;
+    if granted {
         let jobs = decision.jobs;
         rows_taken(
             nodes,

@@ -5,13 +5,12 @@ use Prim.Native.Nat.{ℕ, _+_, _≤_, _<_}
 use native.Mathlib.Omega.{arith}
 use lib.ListN.{length, getD, take, drop, set, length-set}
 use Rattle.lists.specs.Laws.{All, all-front}
-use Rattle.lists.specs.Places.{each-get}
 use Rattle.lists.specs.Rows.{rowMoved}
 use Rattle.lists.specs.Fronts.{Kept, behind-same, kept-more}
 use Rattle.walk.specs.declared.Job.{Job}
 use Rattle.walk.specs.declared.QueueEntry.{QueueEntry}
 use Rattle.walk.specs.Model.{noJob}
-use Rattle.walk.specs.View.{jobAt, jobsOf, noEntry, jobs-moved}
+use Rattle.walk.specs.View.{jobAt, jobsOf, noEntry, Few, job-there, jobs-moved}
 use Rattle.queue.specs.Steps.{Leaving, leave-up, leave-stay, leave-out}
 
 -- entries and rows have the lengths of their arrays
@@ -24,21 +23,11 @@ pub record QueueSized (ks xs : List ℕ) (hs : List QueueEntry) : Type 0 where
 abbrev pub MovedUp : ℕ → ℕ → ℕ → List ℕ → List ℕ → List ℕ → List ℕ → Type 0
 MovedUp k i n ks xs ks′ xs′ = (ks′ ≡ rowMoved 64 k i n ks) × (xs′ ≡ rowMoved 64 k i n xs) × (length ks′ ≡ 8192) × (length xs′ ≡ 8192)
 
--- a booking has at most 64 chunks
-abbrev pub FewChunks : Job → Type 0
-FewChunks j = j .booking .count ≤ 64
-
--- The job at a place is the entry there with its row.
-pub job-there : (ks xs : List ℕ) (hs : List QueueEntry) (i : ℕ) → i < length hs → getD (jobsOf ks xs hs) i noJob ≡ jobAt ks xs i (getD hs i noEntry)
-job-there ks xs hs i h =
-    let z : 0 + i ≡ i = omega arith in
-    each-get (jobAt ks xs) 0 i hs noEntry noJob h ∙ ap (λ (m : ℕ). jobAt ks xs m (getD hs i noEntry)) z
-
 -- An entry that stands behind those looked at has as few chunks as its job.
 pub count-few : (ks xs : List ℕ) (hs : List QueueEntry) (old : List Job) (count k i : ℕ) → k ≤ i → i < count → count ≤ length old → i < length hs
-    → drop k (jobsOf ks xs hs) ≡ drop k old → All FewChunks (take count old) → getD hs i noEntry .count ≤ 64
+    → drop k (jobsOf ks xs hs) ≡ drop k old → All Few (take count old) → getD hs i noEntry .count ≤ 64
 count-few ks xs hs old count k i h l f g e a =
-    subst FewChunks (sym (behind-same noJob (jobsOf ks xs hs) old k i h e) ∙ job-there ks xs hs i g) (all-front noJob FewChunks old count i l f a)
+    subst Few (sym (behind-same noJob (jobsOf ks xs hs) old k i h e) ∙ job-there ks xs hs i g) (all-front noJob Few old count i l f a)
 
 -- ---- One entry moved
 
@@ -68,7 +57,7 @@ module _ (number : ℕ) (jobs : List Job) (count : ℕ) (size : length jobs ≡ 
       → Leaving number jobs count (jobsOf ks′ xs′ (set hs kept (getD hs i noEntry))) (kept + 1) (i + 1)
   leave-moved ks′ xs′ n k its few m = rw (entry-moved ks xs ks′ xs′ hs kept i n k (omega arith) s its few m) (leave-up number jobs count size most (jobsOf ks xs hs) kept i h x k)
 
-  pub leave-few : kept < i → All FewChunks (take count jobs) → getD hs i noEntry .count ≤ 64
+  pub leave-few : kept < i → All Few (take count jobs) → getD hs i noEntry .count ≤ 64
   leave-few k a = count-few ks xs hs jobs count kept i (x .some) h (omega arith) (omega (arith, s .entries)) (x .without-one k .behind) a
 
   -- Before it each stays where it is, and it is left out.

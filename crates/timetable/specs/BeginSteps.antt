@@ -1,21 +1,17 @@
 -- What the functions of src/begin.rt promise each other, and their loops' steps.
-use mathlib.Core.Path.{_≡_, refl, ap, _∙_}
+use mathlib.Core.Path.{_≡_, refl}
 use mathlib.Core.List.{List, [], _∷_, _++_}
 use Prim.Native.Nat.{ℕ, _+_, _-_, _≤_, _<_}
-use native.Mathlib.Omega.{arith}
 use borrow.Author.Tests.{le-leb, lt-leb}
 use lib.ListN.{length, getD, take, drop}
 use Rattle.limits.specs.Model.{mostHeld}
 use Rattle.lists.specs.Laws.{All, front-next}
 use Rattle.lists.specs.Keep.{keep}
-use Rattle.lists.specs.Places.{each-get}
 use Rattle.limits.specs.declared.FarmCosts.{FarmCosts}
 use Rattle.walk.specs.declared.Job.{Job}
-use Rattle.walk.specs.declared.QueueEntry.{QueueEntry}
 use Rattle.walk.specs.declared.FreeTimes.{FreeTimes}
 use Rattle.walk.specs.declared.Chunk.{Chunk}
 use Rattle.walk.specs.Model.{noJob, afters}
-use Rattle.walk.specs.View.{jobAt, jobsOf, noEntry}
 use Rattle.walk.specs.Chunks.{Sendable}
 use Rattle.timetable.specs.Model.{startsAfter}
 
@@ -23,10 +19,6 @@ use Rattle.timetable.specs.Model.{startsAfter}
 unfoldable pub chunks : List Job → ℕ
 chunks [] = 0
 chunks (j ∷ js) = j .booking .count + chunks js
-
--- a job of at most 64 chunks
-abbrev pub Few : Job → Type 0
-Few j = j .booking .count ≤ 64
 
 -- a job that can begin: its chunks can be worked out, its show has a cell, and the cell has room for what they add
 pub record Raises (c : FarmCosts) (held : List ℕ) (j : Job) : Type 0 where
@@ -45,12 +37,6 @@ pub afters-append : (b : FreeTimes) (xs ys : List Chunk) → afters b (xs ++ ys)
 unfolding afters
 afters-append b [] ys = refl
 afters-append b (x ∷ xs) ys = afters-append _ xs ys
-
--- The job at place i is entry i with row i.
-pub jobs-get : (ks xs : List ℕ) (hs : List QueueEntry) (i : ℕ) → i < length hs → getD (jobsOf ks xs hs) i noJob ≡ jobAt ks xs i (getD hs i noEntry)
-jobs-get ks xs hs i h =
-    let z : 0 + i ≡ i = omega arith in
-    each-get (jobAt ks xs) 0 i hs noEntry noJob h ∙ ap (λ (k : ℕ). jobAt ks xs k (getD hs i noEntry)) z
 
 -- ---- The first n jobs of an array, one by one
 

@@ -14,13 +14,13 @@ use Rattle.walk.specs.declared.QueueEntry.{QueueEntry}
 use Rattle.walk.specs.declared.Chunk.{Chunk}
 use Rattle.walk.specs.declared.ChunkTerms.{ChunkTerms}
 use Rattle.walk.specs.Model.{noJob, chunkTerms, chunkOn, chunkAt, chunksFrom, linesOf, inOrder}
-use Rattle.walk.specs.View.{jobAt, jobsOf, noEntry}
+use Rattle.walk.specs.View.{jobAt, jobsOf, noEntry, job-there}
 use Rattle.walk.specs.OrderSteps.{PlacesWithin}
 use Rattle.walk.specs.Chunks.{Sendable, linesFrom, lines-none, lines-next}
 use Rattle.booking.specs.declared.Booking.{Booking}
 use Rattle.booking.specs.Best.{chosen, units}
 use Rattle.timetable.specs.Model.{linesOfAll, chunkRow}
-use Rattle.timetable.specs.BeginSteps.{chunks, jobs-get}
+use Rattle.timetable.specs.BeginSteps.{chunks}
 
 -- memory of which the first n records stand, then come these lines, and from place e on it is what it is
 abbrev pub Filled : {A : Type 0} → List A → ℕ → List A → ℕ → List A
@@ -134,7 +134,7 @@ module _ (keys : List Key) (n k : ℕ) (h : k < n) (f : n ≤ length keys) where
 
   -- Of a queue it names an entry with its row.
   pub named-entry : (ks xs : List ℕ) (hs : List QueueEntry) → length hs ≡ 128 → PlacesWithin (take n keys) → getD (jobsOf ks xs hs) place noJob ≡ jobAt ks xs place (getD hs place noEntry)
-  named-entry ks xs hs l a = jobs-get ks xs hs place (omega (arith, place-within a))
+  named-entry ks xs hs l a = job-there ks xs hs place (omega (arith, place-within a))
 
   module _ (jobs : List Job) (j : Job) (q : getD jobs place noJob ≡ j) where
     -- The job that it names is followed by those of the keys after it.

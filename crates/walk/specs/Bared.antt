@@ -45,16 +45,12 @@ deadline-bared js = ap (λ (l : List Key). inOrder (map bared js) (sortKeys l)) 
 pub entries-bared : (ks xs : List ℕ) (n : ℕ) (hs : List QueueEntry) → map bared (take n (jobsOf ks xs hs)) ≡ map bare (take n hs)
 entries-bared ks xs n hs = ap (map bared) (each-take (jobAt ks xs) 0 n hs) ∙ bared-jobs ks xs 0 (take n hs)
 
-module _ (ks xs : List ℕ) (n : ℕ) (hs : List QueueEntry) where
-  queue-is : map bared (byDeadline (take n (jobsOf ks xs hs))) ≡ byDeadline (map bare (take n hs))
-  queue-is = sym (deadline-bared (take n (jobsOf ks xs hs))) ∙ ap byDeadline (entries-bared ks xs n hs)
+-- The walk of jobs is that of the jobs with their bookings left out.
+pub plan-by-bared : (w : WalkTerms) (b : FreeTimes) (js : List Job) → plan w b (byDeadline js) ≡ plan w b (byDeadline (map bared js))
+plan-by-bared w b js = sym (plan-bared w b (byDeadline js)) ∙ ap (plan w b) (sym (deadline-bared js))
 
-  -- It is the walk of the entries.
-  pub plan-entries : (w : WalkTerms) (b : FreeTimes) → plan w b (byDeadline (take n (jobsOf ks xs hs))) ≡ plan w b (byDeadline (map bare (take n hs)))
-  plan-entries w b = sym (plan-bared w b (byDeadline (take n (jobsOf ks xs hs)))) ∙ ap (plan w b) queue-is
-
-  pub books-entries : (w : WalkTerms) (b : FreeTimes) → booksAll w b (byDeadline (take n (jobsOf ks xs hs))) ≡ booksAll w b (byDeadline (map bare (take n hs)))
-  books-entries w b = sym (books-bared w b (byDeadline (take n (jobsOf ks xs hs)))) ∙ ap (booksAll w b) queue-is
+pub books-by-bared : (w : WalkTerms) (b : FreeTimes) (js : List Job) → booksAll w b (byDeadline js) ≡ booksAll w b (byDeadline (map bared js))
+books-by-bared w b js = sym (books-bared w b (byDeadline js)) ∙ ap (booksAll w b) (sym (deadline-bared js))
 
 -- ---- The walk's rows taken over
 

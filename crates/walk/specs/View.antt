@@ -82,6 +82,10 @@ entered h b = record { number = h .number; show = h .show; size = h .size; compu
 abbrev pub Short : QueueEntry → Type 0
 Short h = h .count ≤ 64
 
+-- a job whose booking has no more chunks than a row has cells
+abbrev pub Few : Job → Type 0
+Few j = j .booking .count ≤ 64
+
 -- how many cells of row i are in use
 abbrev pub useOf : List QueueEntry → ℕ → ℕ
 useOf hs i = getD hs i noEntry .count
@@ -244,6 +248,12 @@ unfolding eachAt bookingOf
 empty-jobs ks xs a zero = refl
 empty-jobs ks xs a (suc n) = ap (λ (l : List Job). emptyJob ∷ l) (empty-jobs ks xs (suc a) n)
 
+-- The job at a place is the entry there with its row.
+pub job-there : (ks xs : List ℕ) (hs : List QueueEntry) (i : ℕ) → i < length hs → getD (jobsOf ks xs hs) i noJob ≡ jobAt ks xs i (getD hs i noEntry)
+job-there ks xs hs i h =
+    let z : 0 + i ≡ i = omega arith in
+    each-get (jobAt ks xs) 0 i hs noEntry noJob h ∙ ap (λ (m : ℕ). jobAt ks xs m (getD hs i noEntry)) z
+
 -- ---- Rows taken over, and rows moved
 
 -- The jobs of such rows are the others' jobs.
@@ -274,7 +284,7 @@ jobs-moved ks xs hs i j d h k l m low few =
     ap₂ (λ (p q : List ℕ). record { number = g .number; show = g .show; size = g .size; compute = g .compute; deadline = g .deadline; booking = record { start = g .start; count = g .count; nodes = p ++ replicate (64 - g .count) 0; shares = q ++ replicate (64 - g .count) 0 } })
     (moved-front 64 i j ks d (omega arith) (omega arith) (g .count) few) (moved-front 64 i j xs d (omega arith) (omega arith) (g .count) few) in
     jobs-set ks xs ks′ xs′ hs i g (moved-elsewhere 64 i j ks d (omega arith) (omega arith) (g .count) few) (moved-elsewhere 64 i j xs d (omega arith) (omega arith) (g .count) few)
-    ∙ ap (set (jobsOf ks xs hs) i) (same ∙ (let z : j ≡ 0 + j = omega arith in ap (λ (n : ℕ). jobAt ks xs n g) z) ∙ sym (each-get (jobAt ks xs) 0 j hs noEntry noJob low))
+    ∙ ap (set (jobsOf ks xs hs) i) (same ∙ sym (job-there ks xs hs j low))
 
 -- ---- The jobs by value
 
@@ -282,8 +292,7 @@ jobs-moved ks xs hs i j d h k l m low few =
 pub read-next : (ks xs : List ℕ) (hs : List QueueEntry) (i : ℕ) (out : List Job) → i < length hs → i < length out → take i out ≡ take i (jobsOf ks xs hs)
     → take (i + 1) (set out i (jobAt ks xs i (getD hs i noEntry))) ≡ take (i + 1) (jobsOf ks xs hs)
 read-next ks xs hs i out h k e =
-    let z : 0 + i ≡ i = omega arith in
-    let at : getD (jobsOf ks xs hs) i noJob ≡ jobAt ks xs i (getD hs i noEntry) = each-get (jobAt ks xs) 0 i hs noEntry noJob h ∙ ap (λ (m : ℕ). jobAt ks xs m (getD hs i noEntry)) z in
+    let at = job-there ks xs hs i h in
     ap (λ (n : ℕ). take n (set out i (jobAt ks xs i (getD hs i noEntry)))) (add-one i)
     ∙ take-suc-set out i (jobAt ks xs i (getD hs i noEntry)) k
     ∙ ap₂ (λ (p : List Job) (q : Job). p ++ q ∷ []) e (sym at)

@@ -23,7 +23,7 @@ use Rattle.timetable.proofs.lines.write_lines.Met as write-thm
 use Rattle.planner.specs.Model.{meant}
 use Rattle.planner.specs.Calls.{Tells}
 use Rattle.planner.specs.declared.Reply.{Reply}
-use Rattle.planner.specs.Clock.{shownSaid, shownMemory, shownLines}
+use Rattle.planner.specs.Clock.{shownSaid, shownLines}
 use Rattle.planner.specs.ClockSteps.{due-asks, due-written, show-memory}
 use Rattle.planner.proofs.Structs as S
 use Rattle.planner.proofs.TableShown.{ps, r, Post}

@@ -4,7 +4,7 @@ use mathlib.Core.Bool.{true, false}
 use lib.ListN.{length}
 use lib.Seq.{take-length}
 use borrow.Author.Tests.{not-true, not-false}
-use Rattle.planner.specs.Model.{between, allAtMost, greatest}
+use Rattle.planner.specs.Model.{allAtMost, greatest}
 use Rattle.planner.specs.Calls.{showsWithin}
 use Rattle.limits.specs.Says.{between-is}
 use Rattle.planner.specs.CallsSteps.{no-nodes, no-costs, no-shows, opens}

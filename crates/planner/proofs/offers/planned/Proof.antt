@@ -1,17 +1,11 @@
 -- `offers::planned` meets its contract. The loop's invariant: no job passed has the new number, and the search ends where it stands.
-use mathlib.Core.Path.{_≡_, ap, sym, _∙_}
-use mathlib.Core.Bool.{true}
-use mathlib.Core.List.{List}
-use Prim.Native.Nat.{ℕ, _+_, _-_, _≤_, _<_}
+use mathlib.Core.Path.{ap, sym, _∙_}
+use Prim.Native.Nat.{_-_, _≤_, _<_}
 use native.Mathlib.Omega.{arith}
 use borrow.Author.Tests.{not-true, not-false}
-use borrow.Author.Needs.{needs}
-use lib.ListN.{length, getD}
 use Rattle.walk.specs.declared.Job.{Job}
-use Rattle.walk.specs.Model.{noJob}
-use Rattle.walk.specs.View.{jobsOf, noEntry}
+use Rattle.walk.specs.View.{jobsOf, job-there}
 use Rattle.queue.specs.Steps.{Seeking, seek-start, seek-found, seek-on, seek-end}
-use Rattle.queue.specs.RowSteps.{job-there}
 use Rattle.planner.specs.Calls.{yesOf}
 use Rattle.planner.specs.Parts.{FiguresSized}
 use Rattle.planner.specs.OfferSteps.{queued-ready, walk-refuses, planned-long, new-within, new-sends, walk-accepts}

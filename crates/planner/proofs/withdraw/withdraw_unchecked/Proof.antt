@@ -2,10 +2,9 @@
 -- of the number; where all are, no row has moved.
 use borrow.Author.Needs.{needs}
 use mathlib.Core.Logic.{⊎-elim}
-use mathlib.Core.Path.{_≡_, refl, sym, _∙_}
-use Prim.Native.Nat.{ℕ, _+_, _-_, _≤_, _<_}
+use mathlib.Core.Path.{_≡_, refl, _∙_}
+use Prim.Native.Nat.{_-_, _≤_}
 use native.Mathlib.Omega.{arith}
-use lib.ListN.{length}
 use Rattle.lists.specs.Places.{each-length}
 use Rattle.walk.specs.View.{jobAt, jobsOf}
 use Rattle.queue.specs.Steps.{Leaving, leave-start, leave-end}
@@ -56,7 +55,7 @@ row-moved-requires c κs =
     let up = c .before .before .if1 .taken in (
       up,
       omega (arith, l .inv .0, t .loop-test .taken),
-      leave-few (a .number) old (a .figures .waiting) full (l .inv .0) (l .nodes) (l .shares) (l .jobs) (l .kept) (l .i) (t .loop-test .taken) (l .inv .1) (l .inv .2) up (passes-few (farmOf (a .figures) (a .nodes .now) (a .shares .now)) (s .pre .1)),
+      omega (arith, leave-few (a .number) old (a .figures .waiting) full (l .inv .0) (l .nodes) (l .shares) (l .jobs) (l .kept) (l .i) (t .loop-test .taken) (l .inv .1) (l .inv .2) up (passes-few (farmOf (a .figures) (a .nodes .now) (a .shares .now)) (s .pre .1))),
       l .inv .1 .nodes,
       l .inv .1 .shares,
     )

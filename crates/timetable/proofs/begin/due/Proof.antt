@@ -6,8 +6,7 @@ use Prim.Native.Nat.{ℕ, _-_, _≤_}
 use native.Mathlib.Omega.{arith}
 use Rattle.lists.specs.Laws.{all-front}
 use Rattle.lists.specs.Places.{each-length}
-use Rattle.walk.specs.View.{jobAt, jobsOf, noEntry, Short}
-use Rattle.timetable.specs.BeginSteps.{jobs-get}
+use Rattle.walk.specs.View.{jobAt, jobsOf, noEntry, Short, job-there}
 use Rattle.timetable.specs.DueSteps.{Finding, finding-begins, finding-waits, finding-all}
 use borrow.Author.Needs.{needs}
 use Rattle.timetable.proofs.begin.due.Statement.{statement}
@@ -58,8 +57,8 @@ loop-again c =
     let h = c .before .before .before .loop-test .taken in
     let k = all-front noEntry Short (a .t1) (a .waiting) (l .i) h (omega arith) (b .pre .1) in
     ⊎-elim
-    (λ x. (omega arith, rw (x .2, x .3, x .4) (λ ks xs. finding-begins (jobsOf ks xs (a .t1)) (a .waiting) (l .i) (a .time) h (b .pre .0) (omega (arith, each-length (jobAt ks xs) 0 (a .t1))) _ (jobs-get ks xs (a .t1) (l .i) (omega arith)) _ (l .keys) (l .count) (l .lines) (l .inv .1 ks xs) k (x .0 .taken))))
-    (λ x. (omega arith, rw (x .1, x .2, x .3) (λ ks xs. finding-waits (jobsOf ks xs (a .t1)) (a .waiting) (l .i) (a .time) h (b .pre .0) (omega (arith, each-length (jobAt ks xs) 0 (a .t1))) _ (jobs-get ks xs (a .t1) (l .i) (omega arith)) _ (l .keys) (l .count) (l .lines) (l .inv .1 ks xs) (x .0 .left))))
+    (λ x. (omega arith, rw (x .2, x .3, x .4) (λ ks xs. finding-begins (jobsOf ks xs (a .t1)) (a .waiting) (l .i) (a .time) h (b .pre .0) (omega (arith, each-length (jobAt ks xs) 0 (a .t1))) _ (job-there ks xs (a .t1) (l .i) (omega arith)) _ (l .keys) (l .count) (l .lines) (l .inv .1 ks xs) k (x .0 .taken))))
+    (λ x. (omega arith, rw (x .1, x .2, x .3) (λ ks xs. finding-waits (jobsOf ks xs (a .t1)) (a .waiting) (l .i) (a .time) h (b .pre .0) (omega (arith, each-length (jobAt ks xs) 0 (a .t1))) _ (job-there ks xs (a .t1) (l .i) (omega arith)) _ (l .keys) (l .count) (l .lines) (l .inv .1 ks xs) (x .0 .left))))
     (c .if1 .came)
 
 sorted-requires : tie.Need-sorted-requires Inv-loop μ-loop

@@ -5,7 +5,8 @@ use native.Mathlib.Omega.{arith}
 use lib.ListN.{take, drop}
 use Rattle.lists.specs.Laws.{front-none, all-front}
 use Rattle.walk.specs.Model.{noJob}
-use Rattle.timetable.specs.BeginSteps.{chunks, chunks-next, Few}
+use Rattle.walk.specs.View.{Few}
+use Rattle.timetable.specs.BeginSteps.{chunks, chunks-next}
 use borrow.Author.Needs.{needs}
 use Rattle.timetable.proofs.begin.line_count.Statement.{statement}
 use Rattle.timetable.proofs.begin.line_count.Tie as tie
