@@ -1,5 +1,5 @@
--- A list made of another, each element with its place: the laws by which an array of small records and what lies at their
--- places elsewhere are one array. Over any two types.
+-- A list made of another, each element with its place: the laws by which an array of small records and what lies at
+-- their places elsewhere are one array. Over any two types.
 use mathlib.Core.Path.{_≡_, refl, ap, ap₂, subst, _∙_}
 use mathlib.Core.List.{List, [], _∷_}
 use Prim.Native.Nat.{ℕ, zero, suc, _+_, _≤_, _<_}
@@ -23,7 +23,8 @@ module _ {A B : Type 0} where
   each-same f g a [] e = refl
   each-same f g a (x ∷ xs) e = ap₂ _∷_ (e a x (omega arith)) (each-same f g (suc a) xs (λ k z h. e k z (omega arith)))
 
-  -- An element written, and what lies at its place, is an element of the made list written, if all else that lies elsewhere is kept.
+  -- An element written, and what lies at its place, is an element of the made list written, if all else that lies
+  -- elsewhere is kept.
   pub each-set : (f g : ℕ → A → B) (a : ℕ) (xs : List A) (i : ℕ) (x : A) (y : B) → g (a + i) x ≡ y → ((k : ℕ) (z : A) → (k ≡ a + i → ⊥) → g k z ≡ f k z)
       → eachAt g a (set xs i x) ≡ set (eachAt f a xs) i y
   unfolding eachAt

@@ -1,5 +1,5 @@
--- Rows of w cells, one after the other in a list: a row written, rows taken over from another list, a row moved, and the
--- others. Over any type and any width.
+-- Rows of w cells, one after the other in a list: a row written, rows taken over from another list, a row moved, and
+-- the others. Over any type and any width.
 use mathlib.Core.Path.{_≡_, refl, sym, ap, subst, _∙_}
 use mathlib.Core.List.{List, [], _∷_, _++_}
 use Prim.Native.Nat.{ℕ, zero, suc, _+_, _*_, _-_, _≤_, _<_}

@@ -39,7 +39,7 @@ use Rattle.planner.specs.declared.Move.{Move}
 use Rattle.planner.specs.declared.clock.Issue.{Issue}
 use Rattle.planner.specs.Model.{Farm, meant, greatest, mostHeld, between, Between, noJob, afters, inOrder, byStart, waitingOf, freeTimesOf, JobSized, Sized}
 use Rattle.planner.specs.Passes.{passesOf, boundsOf, JobWithin}
-use Rattle.planner.specs.PassesSteps.{passes-within, passes-jobs}
+use Rattle.planner.specs.PassesSteps.{passes-within, passes-jobs, passes-few}
 use Rattle.planner.specs.Changes.{withJobs, atTime}
 use Rattle.planner.specs.Calls.{Clock, Shown, said, numberOf, granted, Replies, Tells}
 use Rattle.planner.specs.CallsSteps.{refuses}
@@ -175,12 +175,9 @@ few-entries ks xs a (suc n) [] h = tt
 few-entries ks xs a (suc n) (g ∷ hs) h = (h .0, few-entries ks xs (suc a) n hs (h .1))
 
 module _ (f : Farm) (sized : Sized f) (e : passesOf f ≡ true) where
-  pub waiting-short : All Few (waitingOf f)
-  waiting-short = can-begin-few f (waitingOf f) (waiting-can-begin f sized e)
-
   -- what is asked to find it
   pub due-asked : (ks xs : List ℕ) (hs : List QueueEntry) → f .jobs ≡ jobsOf ks xs hs → (f .waiting ≤ 128) × All Short (take (f .waiting) hs)
-  due-asked ks xs hs q = (waiting-few f sized e, few-entries ks xs 0 (f .waiting) hs (subst (λ (js : List Job). All Few (take (f .waiting) js)) q waiting-short))
+  due-asked ks xs hs q = (waiting-few f sized e, few-entries ks xs 0 (f .waiting) hs (subst (λ (js : List Job). All Few (take (f .waiting) js)) q (passes-few f e)))
 
 module _ (f : Farm) (t : ℕ) (d : Due) (sized : Sized f) (x : Begins f t d) where
   -- The jobs that the keys name.

@@ -20,8 +20,8 @@ use Rattle.planner.specs.declared.Farm as stored
 
 -- ---- A farm
 
--- the farm that document 01 speaks of: its figures, and the waiting jobs with their bookings. All that is asked, answered
--- and shown is said of it. How it lies in memory is not part of it
+-- the farm that document 01 speaks of: its figures, and the waiting jobs with their bookings. All that is asked,
+-- answered and shown is said of it. How it lies in memory is not part of it
 pub record Farm : Type 0 where
   pub opened : Bool
   pub nodes : ℕ
@@ -36,8 +36,8 @@ pub record Farm : Type 0 where
   pub waiting : ℕ
   pub jobs : List Job
 
--- the farm that figures and the rows of cells beside them mean: its jobs are the entries of the queue, each with the cells
--- of its row
+-- the farm that figures and the rows of cells beside them mean: its jobs are the entries of the queue, each with the
+-- cells of its row
 abbrev pub farmOf : Figures → List ℕ → List ℕ → Farm
 farmOf f ks xs = record {
   opened = f .opened;

@@ -1,4 +1,5 @@
--- A farm in its parts, the figures by value and the rows of cells lent: what the functions that are given them so promise.
+-- A farm in its parts, the figures by value and the rows of cells lent: what the functions that are given them so
+-- promise.
 use mathlib.Core.Path.{_≡_, refl, sym, ap, _∙_}
 use mathlib.Core.List.{List, [], _++_}
 use mathlib.Core.Bool.{Bool, true, false, cond, false≢true}
@@ -10,13 +11,13 @@ use Rattle.lists.specs.Laws.{All}
 use Rattle.lists.specs.Places.{each-length}
 use Rattle.lists.specs.Rows.{Alike}
 use Rattle.limits.specs.declared.FarmCosts.{FarmCosts}
-use Rattle.walk.specs.declared.Job.{Job}
 use Rattle.walk.specs.declared.QueueEntry.{QueueEntry}
 use Rattle.walk.specs.View.{noEntry, jobAt, Short, useOf, jobs-sized, empty-jobs}
 use Rattle.planner.specs.declared.Figures.{Figures}
 use Rattle.planner.specs.declared.Opening.{Opening}
 use Rattle.planner.specs.declared.Decision.{Decision}
 use Rattle.planner.specs.Model.{Farm, farmOf, Sized}
+use Rattle.planner.specs.Changes.{withJobs}
 use Rattle.planner.specs.Calls.{Said, said, newFarm}
 
 -- ---- Figures
@@ -83,20 +84,7 @@ unopenedFigures = newFigures false 0 (record { send = 0; compute = 0; linksetup 
 
 -- They mean that farm, whatever stands in the rows: no row is in use.
 pub new-means : (o : Bool) (n : ℕ) (c : FarmCosts) (al ks xs : List ℕ) → farmOf (newFigures o n c al) ks xs ≡ newFarm o n c al
-new-means o n c al ks xs = ap (λ (js : List Job). record {
-  opened = o;
-  nodes = n;
-  costs = c;
-  shows = length al;
-  allowances = al ++ replicate (32 - length al) 0;
-  held = replicate 32 0;
-  clock = 0;
-  link = 0;
-  free = replicate 64 0;
-  used = 0;
-  waiting = 0;
-  jobs = js;
-}) (empty-jobs ks xs 0 128)
+new-means o n c al ks xs = ap (withJobs (newFarm o n c al) 0 0) (empty-jobs ks xs 0 128)
 
 -- an opening says so, and its figures mean this farm, whatever stands in the rows
 pub record OpensFigures (r : Opening) (a : Said) (next : Farm) : Type 0 where
@@ -109,8 +97,8 @@ pub record OpensFigures (r : Opening) (a : Said) (next : Farm) : Type 0 where
 abbrev pub decidedFigures : Figures → Decision → Figures
 decidedFigures f d = cond (d .granted) (withEntries f (d .used) (d .waiting) (d .jobs)) f
 
--- a decision on figures and rows, and the rows that it leaves: it says so, and carried out it is this farm; a refusal leaves
--- the rows as they were
+-- a decision on figures and rows, and the rows that it leaves: it says so, and carried out it is this farm; a refusal
+-- leaves the rows as they were
 pub record Decides (f : Figures) (ks xs : List ℕ) (s : Said) (next : Farm) (d : Decision) (ks′ xs′ : List ℕ) : Type 0 where
   pub says : said (d .answer) ≡ s
   pub granted : d .granted ≡ eqb (s .number) 0
@@ -118,8 +106,8 @@ pub record Decides (f : Figures) (ks xs : List ℕ) (s : Said) (next : Farm) (d 
   pub same : d .granted ≡ false → (ks′ ≡ ks) × (xs′ ≡ xs)
   pub sizes : CellsSized ks′ xs′
 
--- a decision on an offer, with the rows of the plan beside: it says so; where it is granted, and the rows of the plan are
--- taken over as far as they are in use, it is this farm; where it is not, this farm is the one that was given
+-- a decision on an offer, with the rows of the plan beside: it says so; where it is granted, and the rows of the plan
+-- are taken over as far as they are in use, it is this farm; where it is not, this farm is the one that was given
 pub record Plans (f : Figures) (ks xs : List ℕ) (s : Said) (next : Farm) (d : Decision) (pks pxs : List ℕ) : Type 0 where
   pub says : said (d .answer) ≡ s
   pub granted : d .granted ≡ eqb (s .number) 0

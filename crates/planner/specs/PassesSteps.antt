@@ -2,10 +2,11 @@
 use mathlib.Core.Path.{_≡_}
 use mathlib.Core.Bool.{Bool, true, false, _&&_}
 use lib.ListN.{take}
-use Rattle.lists.specs.Laws.{All}
+use Rattle.lists.specs.Laws.{All, all-map}
 use Rattle.limits.specs.Says.{Says, says-le, says-as, says-both, says-between, says-at-most, says-costs}
 use Rattle.limits.specs.Tests.{and-both}
 use Rattle.walk.specs.declared.Job.{Job}
+use Rattle.walk.specs.View.{Few}
 use Rattle.soundness.specs.Model.{jobsPass, allDiffer}
 use Rattle.soundness.specs.Sound.{Usable, JobKept, says-jobs}
 use Rattle.planner.specs.Model.{Farm}
@@ -85,3 +86,7 @@ module _ (f : Farm) (e : passesOf f ≡ true) where
   passes-jobs =
       says-jobs (boundsOf f) (waitingOf f) .yields
       (and-both (jobsPass (boundsOf f) (waitingOf f)) (allDiffer (jobNumbers (waitingOf f))) (and-both (jobsPass (boundsOf f) (waitingOf f) && allDiffer (jobNumbers (waitingOf f))) _ (parts .1) .0) .0)
+
+  -- None has more chunks than a row has cells.
+  pub passes-few : All Few (waitingOf f)
+  passes-few = all-map (λ j a. a .0 .count .1) (waitingOf f) passes-jobs

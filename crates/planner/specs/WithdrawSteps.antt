@@ -6,10 +6,10 @@ use Prim.Native.Nat.{ℕ, _≤_}
 use native.Mathlib.Omega.{arith}
 use lib.ListN.{length, drop}
 use lib.Seq.{length-take-le}
-use Rattle.lists.specs.Laws.{All, all-map, perm-length}
+use Rattle.lists.specs.Laws.{perm-length}
 use Rattle.lists.specs.Places.{each-length}
 use Rattle.walk.specs.declared.QueueEntry.{QueueEntry}
-use Rattle.walk.specs.View.{jobAt, jobsOf, Few}
+use Rattle.walk.specs.View.{jobAt, jobsOf}
 use Rattle.queue.specs.Numbers.{without-perm, without-none}
 use Rattle.planner.specs.declared.Figures.{Figures}
 use Rattle.planner.specs.declared.Farm as stored
@@ -18,15 +18,10 @@ use Rattle.answers.specs.declared.Question.the-variants as question
 use Rattle.answers.specs.declared.Answer.the-variants as answer
 use Rattle.planner.specs.Model.{Farm, farmOf, meant, waitingOf}
 use Rattle.planner.specs.Passes.{passesOf}
-use Rattle.planner.specs.PassesSteps.{passes-jobs}
 use Rattle.planner.specs.Changes.{withJobs}
 use Rattle.planner.specs.Calls.{hasNumber, without, Replies, withdrawSaid, withdrawFarm}
 use Rattle.planner.specs.Parts.{CellsSized, Decides}
 use Rattle.planner.specs.CallsSteps.{refuses}
-
--- No waiting job of a farm that passes has more chunks than a row has cells.
-pub passes-few : (f : Farm) → passesOf f ≡ true → All Few (waitingOf f)
-passes-few f e = all-map (λ j a. a .0 .count .1) (waitingOf f) (passes-jobs f e)
 
 -- What is left of the jobs of a farm: the first `kept` entries with their rows are those without the number.
 module _ (F : Figures) (ks xs : List ℕ) (n kept : ℕ) (left : List QueueEntry) (ks′ xs′ : List ℕ)

@@ -108,8 +108,8 @@ pub fn open_figures(nodes: u64, costs: FarmCosts, allowances: &[u64]) -> Opening
     }
 }
 
-// What a show has held, and what it is charged, on a farm that passes question 11: question 4. No cell is read; they are
-// lent, since what is told is said of the whole farm.
+// What a show has held, and what it is charged, on a farm that passes question 11: question 4. No cell is read; they
+// are lent, since what is told is said of the whole farm.
 pub fn account_unchecked<'a>(
     figures: Figures,
     nodes: &'a [u8; 8192],

@@ -21,8 +21,8 @@ use walk::Chunk;
 use walk::QueueEntry;
 pub use withdraw::withdraw_unchecked;
 
-// The figures of a farm: all but the cells of its bookings. The first `shows` allowances and held ticks, the first `nodes`
-// free times and the first `waiting` jobs count; what stands past them is not looked at.
+// The figures of a farm: all but the cells of its bookings. The first `shows` allowances and held ticks, the first
+// `nodes` free times and the first `waiting` jobs count; what stands past them is not looked at.
 pub struct Figures {
     pub opened: bool,
     pub nodes: usize,
@@ -38,9 +38,9 @@ pub struct Figures {
     pub jobs: [QueueEntry; 128],
 }
 
-// The farm: its figures, and for each chunk of a waiting booking its node and its share, those of the job at place i from
-// cell i × 64 on. A function that works on a farm takes the figures by value and is lent the cells, so that a caller who
-// keeps the three apart copies no cell; a method takes its farm apart and puts it together again.
+// The farm: its figures, and for each chunk of a waiting booking its node and its share, those of the job at place i
+// from cell i × 64 on. A function that works on a farm takes the figures by value and is lent the cells, so that a
+// caller who keeps the three apart copies no cell; a method takes its farm apart and puts it together again.
 pub struct Farm {
     pub figures: Figures,
     pub nodes: [u8; 8192],

@@ -30,8 +30,9 @@ use walk::WalkTerms;
 use walk::job_at;
 use walk::walked;
 
-// Question 8: whether the walk books every waiting job and the new one, and the jobs with their bookings, whose cells are in
-// the rows of the plan. The job of the new number is looked for here: a function that took the jobs would copy them.
+// Question 8: whether the walk books every waiting job and the new one, and the jobs with their bookings, whose cells
+// are in the rows of the plan. The job of the new number is looked for here: a function that took the jobs would copy
+// them.
 fn planned<'a>(
     figures: Figures,
     job: QueueEntry,
@@ -98,9 +99,9 @@ fn planned<'a>(
     }
 }
 
-// What an offer to a farm that passes question 11 is told and, where it is accepted, the jobs that wait then, the cells of
-// their bookings in the rows of the plan: nothing of the farm is changed, so that it serves a quote too. No cell of the farm
-// is read.
+// What an offer to a farm that passes question 11 is told and, where it is accepted, the jobs that wait then, the cells
+// of their bookings in the rows of the plan: nothing of the farm is changed, so that it serves a quote too. No cell of
+// the farm is read.
 pub fn decide_offer<'a>(
     figures: Figures,
     offer: Offer,
@@ -149,7 +150,8 @@ pub fn decide_offer<'a>(
     }
 }
 
-// An offer to a farm that passes question 11. Where it is accepted the rows of the plan that are in use become the farm's.
+// An offer to a farm that passes question 11. Where it is accepted the rows of the plan that are in use become the
+// farm's.
 pub fn offer_unchecked(
     figures: Figures,
     offer: Offer,

@@ -16,8 +16,8 @@ use answers::Answer;
 use answers::Question;
 use queue::row_moved;
 
-// A waiting job leaves a farm that passes question 11, by its number: question 12. The jobs behind it move up by one, each
-// with its row, so that all keep their order.
+// A waiting job leaves a farm that passes question 11, by its number: question 12. The jobs behind it move up by one,
+// each with its row, so that all keep their order.
 pub fn withdraw_unchecked(
     figures: Figures,
     number: u64,

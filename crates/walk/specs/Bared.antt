@@ -1,5 +1,5 @@
--- What the walk of the queue's entries is to a caller with rows of its own: the walk of the jobs that these mean, and the
--- plan, once the walk's rows are taken over.
+-- What the walk of the queue's entries is to a caller with rows of its own: the walk of the jobs that these mean, and
+-- the plan, once the walk's rows are taken over.
 use mathlib.Core.Path.{_≡_, refl, sym, ap, ap₂, _∙_}
 use mathlib.Core.List.{List, [], _∷_, _++_, map}
 use mathlib.Core.Bool.{true}

@@ -5,7 +5,8 @@ use Prim.Native.Nat.{_+_, _-_, _≤_}
 use native.Mathlib.Omega.{arith}
 use Rattle.planner.specs.Model.{Farm, farmOf}
 use Rattle.planner.specs.Parts.{parts-sized}
-use Rattle.planner.specs.ClockSteps.{moved-is, waiting-few, waiting-short, begins-few, begins-places, begins-raises}
+use Rattle.planner.specs.ClockSteps.{moved-is, waiting-few, begins-few, begins-places, begins-raises}
+use Rattle.planner.specs.PassesSteps.{passes-few}
 use Rattle.planner.specs.ClockSteps.{WaitsOn, waits-same, waits-first, waits-few, waits-past, waits-stay, waits-moved, waits-all}
 use Rattle.walk.specs.View.{jobsOf}
 use Rattle.planner.proofs.Sizes.{figures-sized}
@@ -51,7 +52,7 @@ row-moved-requires c κs =
     let l = c .before .before .before .before .before .before .before .loop in
     let x = l .inv .1 in
     let h = c .before .before .before .before .before .before .loop-test .taken in
-    let few = waits-few f (a .time) (z .jobs) (l .inv .0) (l .nodes) (l .shares) (l .jobs) (l .kept) (l .i) x h (waiting-short f z (s .pre .1 .passes)) in
+    let few = waits-few f (a .time) (z .jobs) (l .inv .0) (l .nodes) (l .shares) (l .jobs) (l .kept) (l .i) x h (passes-few f (s .pre .1 .passes)) in
     (omega (arith, c .before .before .if2 .taken), omega (arith, l .inv .0, h), omega (arith, few), x .sized .nodes, x .sized .shares)
 
 mul-jobs : tie.Need-mul-jobs Inv-loop μ-loop
@@ -86,7 +87,7 @@ loop-again c =
           let y = x .1 in
           let next : WaitsOn f t (y .nodes) (y .shares) (y .jobs) (l .kept + 1) (l .i + 1) =
           ⊎-elim
-          (λ u. waits-same (u .4) (u .5) (u .6) refl (waits-moved f t (z .jobs) most (l .nodes) (l .shares) (l .jobs) (l .kept) (l .i) (l .inv .1) h k _ _ (waiting-short f z (s .pre .1 .passes)) (u .0 .taken) (u .3 .ensures)))
+          (λ u. waits-same (u .4) (u .5) (u .6) refl (waits-moved f t (z .jobs) most (l .nodes) (l .shares) (l .jobs) (l .kept) (l .i) (l .inv .1) h k _ _ (passes-few f (s .pre .1 .passes)) (u .0 .taken) (u .3 .ensures)))
           (λ u. waits-same (u .1) (u .2) (u .3) refl (waits-stay f t (z .jobs) most (l .nodes) (l .shares) (l .jobs) (l .kept) (l .i) (l .inv .1) h k (u .0 .left)))
           (y .came) in
           waits-same (x .2) (x .3) (x .4) (x .5) next)

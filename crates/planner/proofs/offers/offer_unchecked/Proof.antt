@@ -1,4 +1,5 @@
--- `offers::offer_unchecked` meets its contract: what is decided, and where it is granted the rows of the plan taken over.
+-- `offers::offer_unchecked` meets its contract: what is decided, and where it is granted the rows of the plan taken
+-- over.
 use Rattle.planner.specs.Parts.{plans-taken, plans-refused}
 use Rattle.planner.proofs.offers.offer_unchecked.Statement.{statement}
 use Rattle.planner.proofs.offers.offer_unchecked.Tie as tie

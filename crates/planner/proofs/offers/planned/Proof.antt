@@ -1,4 +1,5 @@
--- `offers::planned` meets its contract. The loop's invariant: no job passed has the new number, and the search ends where it stands.
+-- `offers::planned` meets its contract. The loop's invariant: no job passed has the new number, and the search ends
+-- where it stands.
 use mathlib.Core.Path.{ap, sym, _∙_}
 use Prim.Native.Nat.{_-_, _≤_, _<_}
 use native.Mathlib.Omega.{arith}

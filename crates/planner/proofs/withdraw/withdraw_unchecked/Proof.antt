@@ -1,5 +1,5 @@
--- `withdraw::withdraw_unchecked` meets its contract. The loop's invariant: the jobs looked at are kept, all or all but the one
--- of the number; where all are, no row has moved.
+-- `withdraw::withdraw_unchecked` meets its contract. The loop's invariant: the jobs looked at are kept, all or all but
+-- the one of the number; where all are, no row has moved.
 use borrow.Author.Needs.{needs}
 use mathlib.Core.Logic.{⊎-elim}
 use mathlib.Core.Path.{_≡_, refl, _∙_}
@@ -10,8 +10,8 @@ use Rattle.walk.specs.View.{jobAt, jobsOf}
 use Rattle.queue.specs.Steps.{Leaving, leave-start, leave-end}
 use Rattle.queue.specs.RowSteps.{QueueSized, sized-moved, leave-moved, leave-few, leave-standing, leave-found}
 use Rattle.planner.specs.Model.{farmOf}
-use Rattle.planner.specs.PassesSteps.{passes-within}
-use Rattle.planner.specs.WithdrawSteps.{passes-few, withdraws-none, withdraws-one}
+use Rattle.planner.specs.PassesSteps.{passes-within, passes-few}
+use Rattle.planner.specs.WithdrawSteps.{withdraws-none, withdraws-one}
 use Rattle.planner.proofs.Sizes.{figures-sized}
 use Rattle.planner.proofs.withdraw.withdraw_unchecked.Statement.{statement}
 use Rattle.planner.proofs.withdraw.withdraw_unchecked.Tie as tie
