@@ -10,14 +10,14 @@ use numbers::difference;
 use walk::{Job, finish_of};
 
 // The compute cost of a job that is offered: absent, where the farm's serves, or given.
-#[derive(Drop)]
+#[derive(Clone, Copy)]
 pub enum ComputeCost {
     Absent,
     Given(u64),
 }
 
 // What is offered: a show's job of a size by a deadline, with its compute cost.
-#[derive(Drop)]
+#[derive(Clone, Copy)]
 pub struct Offer {
     pub show: u64,
     pub size: u64,
@@ -26,7 +26,7 @@ pub struct Offer {
 }
 
 // The question that was answered no.
-#[derive(Drop)]
+#[derive(Clone, Copy)]
 pub enum Question {
     Nodes,
     Costs,
@@ -43,7 +43,7 @@ pub enum Question {
 }
 
 // What a call answers.
-#[derive(Drop)]
+#[derive(Clone, Copy)]
 pub enum Answer {
     Open {
         nodes: u64,
@@ -80,7 +80,7 @@ pub enum Answer {
 }
 
 // The first question that is answered no, if any is.
-#[derive(Drop)]
+#[derive(Clone, Copy)]
 pub enum Asked {
     Yes,
     No(Question),

@@ -11,7 +11,7 @@ use libc::STDERR_FILENO;
 use protocol::Session;
 
 // A day so far, the place in the block up to which it was fed, and whether its answers could be written.
-#[derive(Drop)]
+#[derive(Clone, Copy)]
 pub struct Sent {
     pub session: Session,
     pub next: usize,

@@ -13,7 +13,7 @@ pub const MOST_HELD: u64 = 64_000_000_000_000;
 
 // What a farm costs, in ticks: to send a unit (document 01's m), to compute a unit (p), to set up a send on the link
 // (ST), to set up a node (SC), and to bring an encoded unit back on the node's return line (r).
-#[derive(Drop)]
+#[derive(Clone, Copy)]
 pub struct FarmCosts {
     pub send: u64,
     pub compute: u64,

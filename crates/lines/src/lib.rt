@@ -7,14 +7,14 @@ pub mod step;
 use answers::Offer;
 
 // A call that decides which jobs wait.
-#[derive(Drop)]
+#[derive(Clone, Copy)]
 pub enum Command {
     Offer(Offer),
     Withdraw(u64),
 }
 
 // A call that only tells: the farm stays as it is.
-#[derive(Drop)]
+#[derive(Clone, Copy)]
 pub enum Query {
     Quote(Offer),
     Account(u64),
@@ -22,7 +22,7 @@ pub enum Query {
 
 // What a line asks for: to open a farm, a call that decides which jobs wait, one that only tells, a clock move to a time, or nothing
 // that can be read.
-#[derive(Drop)]
+#[derive(Clone, Copy)]
 pub enum Order {
     Open,
     Command(Command),
@@ -32,7 +32,7 @@ pub enum Order {
 }
 
 // What has come of a line that has not ended: its first `fill` bytes. A fill above 1,024 says that it is too long.
-#[derive(Drop)]
+#[derive(Clone, Copy)]
 pub struct Rest {
     pub fill: usize,
     pub bytes: [u8; 1024],

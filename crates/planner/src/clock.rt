@@ -20,7 +20,7 @@ use timetable::lines::write_lines;
 use walk::{Chunk, FreeTimes, Job, by_start, gathered};
 
 // What a call comes to: the first `count` jobs, whose lines it writes, and its reply.
-#[derive(Drop)]
+#[derive(Clone, Copy)]
 pub struct Issue {
     pub count: usize,
     pub jobs: [Job; 128],

@@ -20,7 +20,7 @@ pub use withdraw::withdraw_unchecked;
 
 // The figures of a farm: all but the cells of its bookings. The first `shows` allowances and held ticks, the first
 // `nodes` free times and the first `waiting` jobs count; what stands past them is not looked at.
-#[derive(Drop)]
+#[derive(Clone, Copy)]
 pub struct Figures {
     pub opened: bool,
     pub nodes: usize,
@@ -39,7 +39,7 @@ pub struct Figures {
 // The farm: its figures, and for each chunk of a waiting booking its node and its share, those of the job at place i
 // from cell i × 64 on. A function that works on a farm takes the figures by value and is lent the cells, so that a
 // caller who keeps the three apart copies no cell; a method takes its farm apart and puts it together again.
-#[derive(Drop)]
+#[derive(Clone, Copy)]
 pub struct Farm {
     pub figures: Figures,
     pub nodes: [u8; 8192],
@@ -47,14 +47,14 @@ pub struct Farm {
 }
 
 // An answer, with the farm that is handed back.
-#[derive(Drop)]
+#[derive(Clone, Copy)]
 pub struct Reply {
     pub answer: Answer,
     pub farm: Farm,
 }
 
 // What an opening comes to: its answer, and the figures of the farm. It uses no cell.
-#[derive(Drop)]
+#[derive(Clone, Copy)]
 pub struct Opening {
     pub answer: Answer,
     pub figures: Figures,
@@ -63,7 +63,7 @@ pub struct Opening {
 // What a call that decides which jobs wait comes to: whether it is granted, its answer and, where it is granted, the
 // count of numbers used then and the first `waiting` of these jobs, which wait then; the cells of their bookings are in
 // the lent rows.
-#[derive(Drop)]
+#[derive(Clone, Copy)]
 pub struct Decision {
     pub granted: bool,
     pub answer: Answer,
@@ -73,7 +73,7 @@ pub struct Decision {
 }
 
 // What a clock move comes to before its lines are written: whether it is granted, its answer, and what begins.
-#[derive(Drop)]
+#[derive(Clone, Copy)]
 pub struct Move {
     pub granted: bool,
     pub answer: Answer,
@@ -81,7 +81,7 @@ pub struct Move {
 }
 
 // A reply, with the lent memory by value.
-#[derive(Drop)]
+#[derive(Clone, Copy)]
 pub struct Timetable {
     pub reply: Reply,
     pub lines: [Chunk; 1024],

@@ -5,7 +5,7 @@ ghost use Rattle.text.specs.Writing.{Wrote, WroteWithin};
 ghost use Rattle.printing.specs.Model.{digits, reached, powers, decimal, answer_word, tabbed, line_text};
 
 // The first word of a line.
-#[derive(Drop)]
+#[derive(Clone, Copy)]
 pub enum Word {
     Open,
     Yes,
@@ -18,7 +18,7 @@ pub enum Word {
 }
 
 // An answer's line: its word and the first `count` numbers.
-#[derive(Drop)]
+#[derive(Clone, Copy)]
 pub struct Line {
     pub word: Word,
     pub count: usize,
@@ -62,7 +62,7 @@ fn put_text(out: &mut [u8], at: usize, text: &[u8]) -> usize
 }
 
 // The bytes of a word: how many they are, and seven places that hold them.
-#[derive(Drop)]
+#[derive(Clone, Copy)]
 struct Spelling(usize, [u8; 7]);
 
 fn spelling_of(word: Word) -> Spelling

@@ -9,7 +9,7 @@ use planner::Figures;
 
 // A day so far: the figures of the farm, and what has come of the next line. The cells of the farm's bookings are lent
 // beside it, so that no line copies them.
-#[derive(Drop)]
+#[derive(Clone, Copy)]
 pub struct Session {
     pub figures: Figures,
     pub rest: Rest,
@@ -17,7 +17,7 @@ pub struct Session {
 
 // What a block comes to: the day so far, the place in the block that is next, and how many bytes of answers were
 // written.
-#[derive(Drop)]
+#[derive(Clone, Copy)]
 pub struct Progress {
     pub session: Session,
     pub next: usize,

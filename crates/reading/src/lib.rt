@@ -9,7 +9,7 @@ use numbers::{smaller_size, wide8};
 use search::next_of;
 
 // The kind of a line, which its first field names; and that of a line that cannot be read.
-#[derive(Drop)]
+#[derive(Clone, Copy)]
 pub enum Kind {
     Farm,
     Job,
@@ -21,7 +21,7 @@ pub enum Kind {
 }
 
 // A line's record: its kind, how many numbers it keeps, and these.
-#[derive(Drop)]
+#[derive(Clone, Copy)]
 pub struct Row {
     pub kind: Kind,
     pub count: usize,
@@ -29,14 +29,14 @@ pub struct Row {
 }
 
 // A field: where it ends, and whether that is at a tab or at the line's end, and not at a newline.
-#[derive(Drop)]
+#[derive(Clone, Copy)]
 struct Field {
     end: usize,
     whole: bool,
 }
 
 // A field as a number: whether it is one, and its value.
-#[derive(Drop)]
+#[derive(Clone, Copy)]
 struct Number {
     known: bool,
     value: u64,
@@ -48,7 +48,7 @@ const NO_NUMBER: Number = Number {
 };
 
 // Fields: whether all are numbers, how many they are, and the first of them.
-#[derive(Drop)]
+#[derive(Clone, Copy)]
 struct Numbers {
     known: bool,
     count: usize,

@@ -7,7 +7,7 @@ use search::{by_bytes, next_of};
 use std::num::{wrapping_add_u64, wrapping_sub_u64};
 
 // What a text is made of: fields of `least` digits and up to `spread` more, and so many fields to a line besides the last.
-#[derive(Drop)]
+#[derive(Clone, Copy)]
 struct Shape {
     least: u64,
     spread: u8,
@@ -15,7 +15,7 @@ struct Shape {
 }
 
 // Where a text is made: a number that looks drawn, how many digits its field has left, and how many fields its line.
-#[derive(Drop)]
+#[derive(Clone, Copy)]
 struct Spot {
     number: u64,
     digits: u64,
@@ -23,14 +23,14 @@ struct Spot {
 }
 
 // A sum of places, and the processor time that it took.
-#[derive(Drop)]
+#[derive(Clone, Copy)]
 struct Timed {
     sum: u64,
     ticks: u64,
 }
 
 // The time of words and of bytes, and a number that is 0 where both find the same places.
-#[derive(Drop)]
+#[derive(Clone, Copy)]
 struct Turns {
     words: u64,
     bytes: u64,

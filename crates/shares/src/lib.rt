@@ -9,7 +9,7 @@ use numbers::{difference, smaller};
 
 // Ticks: to send a unit (document 01's m), to compute a unit (p), to set up a send on the link (ST), to
 // set up a node (SC).
-#[derive(Drop)]
+#[derive(Clone, Copy)]
 pub struct Costs {
     pub send: u64,
     pub compute: u64,
@@ -18,21 +18,21 @@ pub struct Costs {
 }
 
 // What the first node of a window holds, and what it leaves of the window to the remaining nodes.
-#[derive(Drop)]
+#[derive(Clone, Copy)]
 pub struct Share {
     pub units: u64,
     pub left: u64,
 }
 
 // A share list: the first `count` cells; the others are 0.
-#[derive(Drop)]
+#[derive(Clone, Copy)]
 pub struct Shares {
     pub units: [u64; 64],
     pub count: usize,
 }
 
 // How many nodes suffice at the least, if any number does.
-#[derive(Drop)]
+#[derive(Clone, Copy)]
 pub enum Fewest {
     Nodes(usize),
     None,
@@ -120,7 +120,7 @@ pub fn fewest_nodes(costs: Costs, nodes: usize, size: u64, window: u64) -> Fewes
 
 // A window that was tried: what the nodes hold in it, how many ticks less change no share (`spare`), and how many
 // ticks more change some share (`gap`).
-#[derive(Drop)]
+#[derive(Clone, Copy)]
 struct Tried {
     window: u64,
     units: u64,

@@ -14,7 +14,7 @@ use numbers::{smaller_size, wide, wide8, wide32};
 use walk::{FreeTimes, Job, Time, WalkTerms, chunk_on, chunk_terms, keys_by};
 
 // What each waiting job is held against: what a walk knows of the farm, its shows, and the job numbers used.
-#[derive(Drop)]
+#[derive(Clone, Copy)]
 pub struct JobBounds {
     pub terms: WalkTerms,
     pub shows: usize,
@@ -22,14 +22,14 @@ pub struct JobBounds {
 }
 
 // Whether each job passes by itself and, if so, the jobs' numbers.
-#[derive(Drop)]
+#[derive(Clone, Copy)]
 struct Survey {
     pub passes: bool,
     pub numbers: [u64; 128],
 }
 
 // Whether a job's chunks fit behind what came before them, and the free times after them.
-#[derive(Drop)]
+#[derive(Clone, Copy)]
 struct Fit {
     pub fits: bool,
     pub times: FreeTimes,

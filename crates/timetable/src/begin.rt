@@ -14,7 +14,7 @@ use numbers::difference;
 use walk::{FreeTimes, Job, QueueEntry, chunk_on, entry_terms, occupied};
 
 // What jobs leave once they have begun: the free times, and the held ticks.
-#[derive(Drop)]
+#[derive(Clone, Copy)]
 pub struct Begun {
     pub times: FreeTimes,
     pub held: [u64; 32],

@@ -6,7 +6,7 @@ pub mod lines;
 use keys::Key;
 
 // What a move to a time begins: how many jobs, with how many lines, and the jobs' keys in order of start.
-#[derive(Drop)]
+#[derive(Clone, Copy)]
 pub struct Due {
     pub count: usize,
     pub lines: usize,
