@@ -1,5 +1,7 @@
 // What a call is asked and what it says: offers, questions and answers, and the answers that are worked out of a job or of a show's figures. It knows no farm.
 // What each answer means is in specs/Model.antt.
+#![tactic(auto)]
+
 ghost use Rattle.std.specs.Prelude.{[], ◌∷◌, ◌≡◌, ◌-◌, ◌≤◌, get_or};
 ghost use Rattle.walk.specs.Chunks.{Sendable};
 ghost use Rattle.answers.specs.Model.{Account, said, granted, compute_or, asks_offer, yes_of, as_quote};

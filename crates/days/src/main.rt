@@ -1,5 +1,6 @@
 // Runs the days that the file `days` names, one name a line, and prints each day's name and its answers. They go through the same code
 // as in farmday. The stored answers were compared with the second planner's.
+#![tactic(auto)]
 
 use libc::STDOUT_FILENO;
 use search::find;

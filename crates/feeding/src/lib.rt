@@ -1,5 +1,7 @@
 // Days that come through a file descriptor: read in blocks, answered by the crate protocol, and the answers written. A
 // failed read or write ends a day, and says so in one line on standard error.
+#![tactic(auto)]
+
 ghost use Rattle.std.specs.Prelude.{length};
 ghost use Rattle.planner.specs.Model.{farm_of};
 ghost use Rattle.planner.specs.Parts.{CellsSized};

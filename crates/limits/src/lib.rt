@@ -1,5 +1,7 @@
 // The limits of document 01's table on numbers and costs, and the tests that they are made of.
 // What each test means is in specs/Model.antt.
+#![tactic(auto)]
+
 ghost use Rattle.std.specs.Prelude.{◌&&◌, ◌≡◌, leb, ltb, take};
 ghost use Rattle.limits.specs.Model.{greatest, between, all_at_most, costs_within};
 

@@ -1,5 +1,7 @@
 // Text: a line as the call that it is, an answer as the line that it is, and what has come of a line that has not ended. It knows farms and bytes, and no
 // block of input. What a line is answered is in specs/Model.antt.
+#![tactic(auto)]
+
 pub mod answer;
 pub mod kept;
 pub mod step;

@@ -1,5 +1,7 @@
 // The day of document 01's listing, by calls on the farm and with no line read: the opening, its two granted offers, a third that is quoted first and withdrawn again,
 // the timetable shown, the clock move and both accounts. Prints an answer a line, its fields parted by tabs; the lines of a timetable come before its answer.
+#![tactic(auto)]
+
 use answers::{Answer, ComputeCost, Offer};
 use limits::FarmCosts;
 use planner::{Farm, Reply, Timetable};

@@ -1,4 +1,6 @@
 // Numbers: differences, the larger and the smaller of two, and small numbers made wide. It knows nothing else.
+#![tactic(auto)]
+
 ghost use Rattle.std.specs.Prelude.{◌≡◌, ◌-◌, ◌<◌, max, min};
 
 // The difference, and 0 where there is none.

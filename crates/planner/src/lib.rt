@@ -1,5 +1,6 @@
 // The farm: opening, offers, quotes, withdrawals, clock moves, showing and accounts. Each call takes the farm as a value and hands the next
 // one back. What each call means is in specs/Calls.antt and specs/Clock.antt.
+#![tactic(auto)]
 
 mod calls;
 mod clock;

@@ -1,4 +1,6 @@
 // Text out: the line of an answer. It knows words and numbers, and no farm. What each function means is in specs/Model.antt.
+#![tactic(auto)]
+
 ghost use Rattle.std.specs.Prelude.{◌≡◌, ◌∷◌, suc, ◌+◌, ◌*◌, ◌≤◌, length, take};
 ghost use Rattle.text.specs.Model.{tab};
 ghost use Rattle.text.specs.Writing.{Wrote, WroteWithin};

@@ -1,6 +1,8 @@
 // Text: the lines of a day and the answers that they get, fed in blocks. It knows farms and bytes, and neither reads
 // nor writes a file. What a line is answered and what the bytes of a block come to is in the crate lines; what a whole
 // day prints is in the crate printed.
+#![tactic(auto)]
+
 mod blocks;
 
 pub use blocks::{answer_block, end_of_input, start};

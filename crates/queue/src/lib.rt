@@ -1,6 +1,8 @@
 // Waiting jobs: the empty one and a new one, jobs put together with their cells, and the rows of cells taken over or
 // moved with them. It knows jobs, and no farm. What is said of jobs by their numbers is in specs/Model.antt; the loops
 // that look for a number stand where the jobs are, in the planner, since a function that took the jobs would copy them.
+#![tactic(auto)]
+
 ghost use Rattle.std.specs.Prelude.{◌≡◌, ◌≤◌, ◌<◌, length, take};
 ghost use Rattle.lists.specs.Laws.{All};
 ghost use Rattle.lists.specs.Rows.{row_from, Alike};

@@ -1,5 +1,7 @@
 // Text in: one line, given without its newline, and the record that it is. It knows bytes and numbers, and no farm.
 // What the public functions mean is in specs/Model.antt, what their parts work out in specs/Steps.antt and specs/Separators.antt.
+#![tactic(auto)]
+
 ghost use Rattle.std.specs.Prelude.{◌≡◌, false, cond, [], ◌≤◌, length, drop, set, replicate};
 ghost use Rattle.reading.specs.Model.{same, kind_of, fits, row_with, row_of};
 ghost use Rattle.reading.specs.Separators.{field_from};

@@ -1,5 +1,7 @@
 // The search for the next of two bytes: a word of eight bytes at a time, and the tail by bytes. It knows bytes, and no line.
 // What the public functions find is in specs/Model.antt, why the test of a word is right in specs/Words.antt.
+#![tactic(auto)]
+
 ghost use Rattle.std.specs.Prelude.{◌≡◌, ◌+◌, ◌/◌, ◌<◌, ◌≤◌, length, take, drop};
 ghost use Rattle.std.specs.Int.Count.{count_trailing_zeros};
 ghost use Rattle.search.specs.Model.{this, either, next_place};

@@ -1,5 +1,7 @@
 // Cuts made texts into lines and these into fields, by words and by bytes, and prints what both find: the sum of the places where fields end. Started with an argument, it
 // prints how many times quicker words are.
+#![tactic(auto)]
+
 ghost use Rattle.std.specs.Prelude.{◌≤◌, length};
 
 use numbers::wide8;

@@ -1,6 +1,8 @@
 // The share arithmetic: how many whole units equal nodes can hold inside a window of ticks, on how few
 // nodes, in how short a window, and with which shares. It knows nothing of jobs, shows, clocks or farms.
 // What each function means is in specs/Model.antt; the other files of specs/ show what follows.
+#![tactic(auto)]
+
 ghost use Rattle.std.specs.Prelude.{◌≡◌, ◌+◌, ◌-◌, ◌<◌, ◌≤◌, ◌&&◌, ◌==◌, nat_le};
 ghost use Rattle.shares.specs.Model.{send_end, chunk_finish, first, answers, next_of, fewest_of, earliest, earliest_of, shares_of};
 ghost use Rattle.shares.specs.Slack.{costs_of, Found};

@@ -1,6 +1,8 @@
 // Question 11 asked of the waiting jobs: each by itself against a few bounds, their numbers, and all of them behind one another.
 // It knows no farm. Nothing is taken for granted of a job: what could make a sum wrap is tested before the sum is made.
 // What each function means is in specs/Model.antt.
+#![tactic(auto)]
+
 ghost use Rattle.std.specs.Prelude.{◌≡◌, ◌≤◌, take};
 ghost use Rattle.lists.specs.Laws.{All};
 ghost use Rattle.walk.specs.Model.{by_start, spans_of_all, in_order, fit_all};

@@ -1,5 +1,7 @@
 // What a clock move begins: the jobs in order of start, their lines, and what they leave in free times and held ticks.
 // It knows jobs and chunks, and no farm. What each function means is in specs/Model.antt.
+#![tactic(auto)]
+
 pub mod begin;
 pub mod lines;
 

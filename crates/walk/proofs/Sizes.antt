@@ -1,7 +1,7 @@
 -- The lengths of the arrays that a value of a declared type holds.
-use mathlib.Core.Path.{◌≡◌, sym, ◌∙◌}
+use mathlib.Core.Path.{◌≡◌}
 use mathlib.Core.List.{List}
-use lib.ListN.{length, length-map}
+use lib.ListN.{length}
 use mir.Val.{Val}
 use denote.Laws.{Is}
 use denote.Struct.Declared.{row}
@@ -11,10 +11,10 @@ use Rattle.walk.specs.contracts.Job as job
 use Rattle.walk.specs.contracts.FreeTimes as times
 
 pub nodes_length : {vs : List Val} (j : Job) → Is (row job.the_type) j vs → length j.booking.nodes ≡ 64
-nodes_length j p = sym (length-map j.booking.nodes _) ∙ p.1.1.1.1.1.1.1.0.1.1.1.1.0.1.0.1
+nodes_length j p = p.1.1.1.1.1.1.1.0.1.1.1.1.0.1.0.1
 
 pub shares_length : {vs : List Val} (j : Job) → Is (row job.the_type) j vs → length j.booking.shares ≡ 64
-shares_length j p = sym (length-map j.booking.shares _) ∙ p.1.1.1.1.1.1.1.0.1.1.1.1.1.0.1.0.1
+shares_length j p = p.1.1.1.1.1.1.1.0.1.1.1.1.1.0.1.0.1
 
 pub free_length : {vs : List Val} (b : FreeTimes) → Is (row times.the_type) b vs → length b.free ≡ 64
-free_length b p = sym (length-map b.free _) ∙ p.1.1.1.0.1.0.1
+free_length b p = p.1.1.1.0.1.0.1

@@ -1,5 +1,7 @@
 // The windows A to J of document 01, "Windows to try", worked out by the share arithmetic. One line a
 // window: its letter, then the fewest nodes, the earliest finish on them and the shares, or "none".
+#![tactic(auto)]
+
 ghost use Rattle.std.specs.Prelude.{◌≡◌};
 ghost use Rattle.windows.specs.Count.{count_of};
 

@@ -1,0 +1,6 @@
+-- `answers::yes` meets its contract.
+use borrow.Author.Rules.{rules}
+use Rattle.answers.proofs.yes.Goals as goal
+
+pub returns : goal.returns
+returns c = rw c.finish_of-finish.ensures

@@ -1,0 +1,14 @@
+-- `queue::jobs_of` meets its contract.
+use mathlib.Core.Path.{◌≡◌, refl, subst}
+use Prim.Native.Nat.{ℕ, ◌-◌, ◌≤◌, ◌<◌}
+use native.Mathlib.Omega.{arith}
+use lib.ListN.{length, take, length-set}
+use Rattle.walk.specs.View.{jobs_of, read_next}
+use borrow.Author.Rules.{rules}
+use Rattle.queue.proofs.jobs_of.Given as goal
+
+abbrev pub invariant-loop-i : goal.invariant-loop-i
+invariant-loop-i l = (l.i ≤ l.count) × (length l.out ≡ 128) × (take l.i l.out ≡ take l.i (jobs_of l.nodes l.shares l.jobs))
+
+abbrev pub decreases-loop-i : goal.decreases-loop-i
+decreases-loop-i l = l.count - l.i

@@ -1,0 +1,6 @@
+-- `queue::new_job` meets its contract.
+use borrow.Author.Rules.{rules}
+use Rattle.queue.proofs.new_job.Goals as goal
+
+pub returns : goal.returns
+returns c = rw c.empty_job-job.ensures
