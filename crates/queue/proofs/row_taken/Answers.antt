@@ -10,7 +10,7 @@ use Rattle.queue.proofs.row_taken.Goals as goal
 pub loop-k-init : goal.loop-k-init
 loop-k-init c =
     let a = c.args in
-    (omega arith, put_none 64 a.place (drop (a.place * 64) a.other-nodes.now) a.nodes.now, put_none 64 a.place (drop (a.place * 64) a.other-shares.now) a.shares.now)
+    (omega arith, put_none 64 a.place (drop (a.place * 64) a.other_nodes.now) a.nodes.now, put_none 64 a.place (drop (a.place * 64) a.other_shares.now) a.shares.now)
 
 pub loop-k-preserved : goal.loop-k-preserved
 loop-k-preserved c =
@@ -19,8 +19,8 @@ loop-k-preserved c =
     let at = a.place * 64 in
     let more : l.k < a.count = omega (arith, c.loop-k-test.true) in (
       omega arith,
-      ap (λ (o : List ℕ). set o (at + l.k) (get_or a.other-nodes.now (at + l.k) 0)) l.invariant.1 ∙ from_next 64 a.place l.k a.nodes.now a.other-nodes.now 0 (omega (arith, c.requires)) (omega (arith, c.requires)),
-      ap (λ (o : List ℕ). set o (at + l.k) (get_or a.other-shares.now (at + l.k) 0)) l.invariant.2 ∙ from_next 64 a.place l.k a.shares.now a.other-shares.now 0 (omega (arith, c.requires)) (omega (arith, c.requires)),
+      ap (λ (o : List ℕ). set o (at + l.k) (get_or a.other_nodes.now (at + l.k) 0)) l.invariant.1 ∙ from_next 64 a.place l.k a.nodes.now a.other_nodes.now 0 (omega (arith, c.requires)) (omega (arith, c.requires)),
+      ap (λ (o : List ℕ). set o (at + l.k) (get_or a.other_shares.now (at + l.k) 0)) l.invariant.2 ∙ from_next 64 a.place l.k a.shares.now a.other_shares.now 0 (omega (arith, c.requires)) (omega (arith, c.requires)),
     )
 
 pub returns : goal.returns
@@ -28,4 +28,4 @@ returns c =
     let a = c.args in
     let l = c.loop-k in
     let e : l.k ≡ a.count = omega arith in
-    (l.invariant.1 ∙ ap (λ (n : ℕ). row_from 64 a.place n a.nodes.now a.other-nodes.now) e, l.invariant.2 ∙ ap (λ (n : ℕ). row_from 64 a.place n a.shares.now a.other-shares.now) e)
+    (l.invariant.1 ∙ ap (λ (n : ℕ). row_from 64 a.place n a.nodes.now a.other_nodes.now) e, l.invariant.2 ∙ ap (λ (n : ℕ). row_from 64 a.place n a.shares.now a.other_shares.now) e)

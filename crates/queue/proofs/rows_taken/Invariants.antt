@@ -10,7 +10,7 @@ use borrow.Author.Rules.{rules}
 use Rattle.queue.proofs.rows_taken.Given as goal
 
 abbrev pub invariant-loop-i : goal.invariant-loop-i
-invariant-loop-i l = (l.i ≤ l.count) × Alike 64 (use_of l.jobs) l.i l.initial.nodes l.other-nodes l.nodes × Alike 64 (use_of l.jobs) l.i l.initial.shares l.other-shares l.shares
+invariant-loop-i l = (l.i ≤ l.count) × Alike 64 (use_of l.jobs) l.i l.initial.nodes l.other_nodes l.nodes × Alike 64 (use_of l.jobs) l.i l.initial.shares l.other_shares l.shares
 
 abbrev pub decreases-loop-i : goal.decreases-loop-i
 decreases-loop-i l = l.count - l.i

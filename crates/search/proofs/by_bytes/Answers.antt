@@ -1,5 +1,5 @@
-use Rattle.std.proofs.Common.{◌≡◌, ◌-◌, length, arith, rules}
-use Rattle.search.specs.Model.{either, next_place}
+use Rattle.std.proofs.Common.{arith}
+use Rattle.search.specs.Model.{either}
 use Rattle.search.specs.Laws.{before_end}
 use Rattle.search.specs.Steps.{before_stop, before_stop_second, before_more}
 use Rattle.search.proofs.by_bytes.Goals as goal

@@ -1,8 +1,6 @@
 -- `search::by_bytes` meets its contract. The loop's invariant: what is wanted stands next where it stands next from i on. The measure is how much is left.
-use Rattle.std.proofs.Common.{◌≡◌, ◌-◌, length, arith, rules}
+use Rattle.std.proofs.Common.{◌≡◌, ◌-◌, length}
 use Rattle.search.specs.Model.{either, next_place}
-use Rattle.search.specs.Laws.{before_end}
-use Rattle.search.specs.Steps.{before_stop, before_stop_second, before_more}
 use Rattle.search.proofs.by_bytes.Given as goal
 
 abbrev pub invariant-loop-i : goal.invariant-loop-i

@@ -1,6 +1,5 @@
 -- `search::eight` meets its contract.
 use Rattle.search.specs.Steps.{word_eight}
-use Rattle.std.proofs.Common.{rules}
 use Rattle.search.proofs.eight.Goals as goal
 
 pub returns : goal.returns

@@ -1,6 +1,5 @@
 -- `search::find` meets its contract: one byte, asked for twice.
 use Rattle.search.specs.Steps.{before_same}
-use Rattle.std.proofs.Common.{rules}
 use Rattle.search.proofs.find.Goals as goal
 
 pub returns : goal.returns

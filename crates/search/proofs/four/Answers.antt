@@ -1,6 +1,5 @@
 -- `search::four` meets its contract.
 use Rattle.search.specs.Steps.{word_four}
-use Rattle.std.proofs.Common.{rules}
 use Rattle.search.proofs.four.Goals as goal
 
 pub returns : goal.returns

@@ -1,6 +1,5 @@
 -- `search::marks` meets its contract: the marks of either byte, together.
 use Rattle.search.specs.Words.{either_exact}
-use Rattle.std.proofs.Common.{rules}
 use Rattle.search.proofs.marks.Goals as goal
 
 pub returns : goal.returns

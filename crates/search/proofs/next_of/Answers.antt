@@ -1,6 +1,6 @@
-use Rattle.std.proofs.Common.{◌≡◌, ◌-◌, ◌≤◌, length, arith, rules}
+use Rattle.std.proofs.Common.{arith}
 use lib.Count.{trailing_le}
-use Rattle.search.specs.Model.{either, next_place}
+use Rattle.search.specs.Model.{either}
 use Rattle.search.specs.Laws.{next_past}
 use Rattle.search.specs.Steps.{word_found, word_passed}
 use Rattle.search.proofs.next_of.Goals as goal

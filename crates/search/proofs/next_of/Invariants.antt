@@ -1,9 +1,6 @@
 -- `search::next_of` meets its contract. The invariant and the measure are those of `by_bytes`; a turn goes eight bytes further.
-use Rattle.std.proofs.Common.{◌≡◌, ◌-◌, ◌≤◌, length, arith, rules}
-use lib.Count.{trailing_le}
+use Rattle.std.proofs.Common.{◌≡◌, ◌-◌, ◌≤◌, length}
 use Rattle.search.specs.Model.{either, next_place}
-use Rattle.search.specs.Laws.{next_past}
-use Rattle.search.specs.Steps.{word_found, word_passed}
 use Rattle.search.proofs.next_of.Given as goal
 
 abbrev pub invariant-loop-i : goal.invariant-loop-i

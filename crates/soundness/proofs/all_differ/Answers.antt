@@ -15,7 +15,7 @@ returns-then-not-none_of c =
     let h = c.loop-i-test.true in
     let xs = a.xs.now in
     let test : c.none_of.result ≡ none_of (get_or xs l.i 0) (drop (l.i + 1) xs) = c.none_of.ensures ∙ ap (none_of (get_or xs l.i 0)) (part_rest xs (l.i + 1)) in
-    sym (sym l.invariant.1 ∙ differ_stop xs l.i h (sym test ∙ not-true _ c.if-not-none_of.true))
+    sym (sym l.invariant.1 ∙ differ_stop xs l.i h (sym test ∙ c.if-not-none_of.true))
 
 pub loop-i-preserved : goal.loop-i-preserved
 loop-i-preserved c =
@@ -24,7 +24,7 @@ loop-i-preserved c =
     let h = c.loop-i-test.true in
     let xs = a.xs.now in
     let test : c.none_of.result ≡ none_of (get_or xs l.i 0) (drop (l.i + 1) xs) = c.none_of.ensures ∙ ap (none_of (get_or xs l.i 0)) (part_rest xs (l.i + 1)) in
-    (omega arith, sym (differ_more xs l.i h (sym test ∙ not-false _ c.if-not-none_of.false)) ∙ l.invariant.1)
+    (omega arith, sym (differ_more xs l.i h (sym test ∙ c.if-not-none_of.false)) ∙ l.invariant.1)
 
 pub returns : goal.returns
 returns c =

@@ -14,7 +14,7 @@ use Rattle.soundness.proofs.jobs_fit.Given as goal
 abbrev pub invariant-loop-i : goal.invariant-loop-i
 invariant-loop-i l =
     (l.i ≤ l.count)
-    × (fit_all l.initial.now-busy (spans_of_all l.costs (in_order (take l.count l.jobs) (take l.count l.keys))) ≡ fit_all l.now-times (spans_of_all l.costs (in_order (take l.count l.jobs) (slice l.i l.count l.keys))))
+    × (fit_all l.initial.now_times (spans_of_all l.costs (in_order (take l.count l.jobs) (take l.count l.keys))) ≡ fit_all l.now_times (spans_of_all l.costs (in_order (take l.count l.jobs) (slice l.i l.count l.keys))))
 
 abbrev pub decreases-loop-i : goal.decreases-loop-i
 decreases-loop-i l = l.count - l.i

@@ -17,9 +17,9 @@ pub returns-then-not-job_passes : goal.returns-then-not-job_passes
 returns-then-not-job_passes c =
     let a = c.args in
     let l = c.loop-i in
-    let fits : a.count ≤ length a.t2 = omega arith in
+    let fits : a.count ≤ length a.jobs = omega arith in
     record {
-      tells = sym (l.invariant.1 ∙ pass_stop a.bounds a.t2 l.i a.count c.loop-i-test.true fits (sym c.job_passes.ensures ∙ not-true _ c.if-not-job_passes.true));
+      tells = sym (l.invariant.1 ∙ pass_stop a.bounds a.jobs l.i a.count c.loop-i-test.true fits (sym c.job_passes.ensures ∙ c.if-not-job_passes.true));
       numbers = λ e. absurd (false≢true e);
       many = l.invariant.2;
     }
@@ -29,11 +29,11 @@ loop-i-preserved c =
     let a = c.args in
     let l = c.loop-i in
     let h = c.loop-i-test.true in
-    let fits : a.count ≤ length a.t2 = omega arith in (
+    let fits : a.count ≤ length a.jobs = omega arith in (
       omega arith,
-      l.invariant.1 ∙ pass_more a.bounds a.t2 l.i a.count h fits (sym c.job_passes.ensures ∙ not-false _ c.if-not-job_passes.false),
+      l.invariant.1 ∙ pass_more a.bounds a.jobs l.i a.count h fits (sym c.job_passes.ensures ∙ c.if-not-job_passes.false),
       simp length-set l.invariant.2,
-      numbers_more a.t2 l.numbers l.i (omega arith) (omega (arith, l.invariant.2)) l.invariant.3,
+      numbers_more a.jobs l.numbers l.i (omega arith) (omega (arith, l.invariant.2)) l.invariant.3,
     )
 
 pub returns : goal.returns
@@ -42,7 +42,7 @@ returns c =
     let l = c.loop-i in
     let all : l.i ≡ a.count = omega arith in
     record {
-      tells = sym (l.invariant.1 ∙ ap (λ (k : ℕ). jobs_pass a.bounds (slice k a.count a.t2)) all ∙ pass_none a.bounds a.t2 a.count);
-      numbers = λ _. subst (λ (k : ℕ). take k l.numbers ≡ job_numbers (take k a.t2)) all l.invariant.3;
+      tells = sym (l.invariant.1 ∙ ap (λ (k : ℕ). jobs_pass a.bounds (slice k a.count a.jobs)) all ∙ pass_none a.bounds a.jobs a.count);
+      numbers = λ _. subst (λ (k : ℕ). take k l.numbers ≡ job_numbers (take k a.jobs)) all l.invariant.3;
       many = l.invariant.2;
     }

@@ -19,8 +19,8 @@ returns-then-not-all_differ c =
     let a = c.args in
     let survey = c.surveyed-survey in
     let passed : survey.result.passes ≡ true = not-false _ c.if-not-survey.false in
-    let differ : c.before.all_differ_lem.result ≡ all_differ (job_numbers (take a.count a.jobs)) = c.before.all_differ_lem.ensures ∙ rw sub-zero (ap all_differ (survey.ensures.numbers passed)) in
-    sym (waiting_twice a.bounds a.times (take a.count a.jobs) (sym differ ∙ not-true _ c.if-not-all_differ.true))
+    let differ : c.all_differ.result ≡ all_differ (job_numbers (take a.count a.jobs)) = c.all_differ.ensures ∙ rw sub-zero (ap all_differ (survey.ensures.numbers passed)) in
+    sym (waiting_twice a.bounds a.times (take a.count a.jobs) (sym differ ∙ c.if-not-all_differ.true))
 
 pub in_turn-requires : goal.in_turn-requires
 in_turn-requires c =
@@ -34,5 +34,5 @@ returns c =
     let a = c.args in
     let survey = c.surveyed-survey in
     let passed : survey.result.passes ≡ true = not-false _ c.if-not-survey.false in
-    let differ : c.before.before.before.all_differ_lem.result ≡ all_differ (job_numbers (take a.count a.jobs)) = c.before.before.before.all_differ_lem.ensures ∙ rw sub-zero (ap all_differ (survey.ensures.numbers passed)) in
-    c.in_turn.ensures ∙ sym (waiting_rest a.bounds a.times (take a.count a.jobs) (sym survey.ensures.tells ∙ passed) (sym differ ∙ not-false _ c.if-not-all_differ.false))
+    let differ : c.all_differ.result ≡ all_differ (job_numbers (take a.count a.jobs)) = c.all_differ.ensures ∙ rw sub-zero (ap all_differ (survey.ensures.numbers passed)) in
+    c.in_turn.ensures ∙ sym (waiting_rest a.bounds a.times (take a.count a.jobs) (sym survey.ensures.tells ∙ passed) (sym differ ∙ c.if-not-all_differ.false))
