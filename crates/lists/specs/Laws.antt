@@ -1,5 +1,5 @@
 -- Lists: pairs of elements, membership, and that different elements are no more than the places they stand in.
-use Rattle.std.specs.Prelude.{◌≡◌, ◌⊎◌, length, get_or, take, drop}
+use Rattle.std.specs.Prelude.{◌≡◌, length, get_or, take, drop}
 use Rattle.std.proofs.Math.Path.{refl, ap, sym}
 use Rattle.std.proofs.Common.{subst, subst₂, ◌∙◌, add-one, arith, drop_of_length-le, drop-cons, get_or-take, length-take-le}
 use mathlib.Core.List.Memᴰ

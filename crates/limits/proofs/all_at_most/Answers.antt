@@ -1,11 +1,10 @@
 use mathlib.Core.Path.{◌≡◌, sym, ap, ◌∙◌}
-use Prim.Native.Nat.{ℕ, ◌-◌, ◌≤◌}
+use Prim.Native.Nat.{ℕ}
 use native.Mathlib.Omega.{arith}
-use lib.ListN.{length, take}
+use lib.ListN.{take}
 use lib.Seq.{slice}
 use Rattle.limits.specs.Model.{all_at_most}
 use Rattle.limits.specs.Tests.{take_least, at_most_more, at_most_stop, at_most_none}
-use borrow.Author.Rules.{rules}
 use Rattle.limits.proofs.all_at_most.Goals as goal
 
 pub loop-i-init : goal.loop-i-init

@@ -1,12 +1,9 @@
 -- `limits::all_at_most` meets its contract. The loop's invariant: what is left of the numbers decides. The measure is how many are left.
-use mathlib.Core.Path.{◌≡◌, sym, ap, ◌∙◌}
-use Prim.Native.Nat.{ℕ, ◌-◌, ◌≤◌}
-use native.Mathlib.Omega.{arith}
+use mathlib.Core.Path.{◌≡◌}
+use Prim.Native.Nat.{◌-◌, ◌≤◌}
 use lib.ListN.{length, take}
 use lib.Seq.{slice}
 use Rattle.limits.specs.Model.{all_at_most}
-use Rattle.limits.specs.Tests.{take_least, at_most_more, at_most_stop, at_most_none}
-use borrow.Author.Rules.{rules}
 use Rattle.limits.proofs.all_at_most.Given as goal
 
 abbrev pub invariant-loop-i : goal.invariant-loop-i

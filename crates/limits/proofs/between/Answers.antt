@@ -1,5 +1,4 @@
 -- `limits::between` meets its contract: two tests.
-use borrow.Author.Rules.{rules}
 use Rattle.limits.proofs.between.Goals as goal
 
 pub returns : goal.returns

@@ -1,6 +1,5 @@
 -- `limits::costs_within` meets its contract, test by test.
 use Rattle.limits.specs.Model.{costs_within}
-use borrow.Author.Rules.{rules}
 use Rattle.limits.proofs.costs_within.Goals as goal
 
 pub returns : goal.returns

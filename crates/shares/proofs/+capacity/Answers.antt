@@ -1,7 +1,7 @@
 -- The shares found so far and what they leave, node by node: each case is a lemma of specs/Slack.antt.
 use Rattle.std.proofs.Common.{arith}
 use Rattle.shares.specs.Capacity.{at_most_window}
-use Rattle.shares.specs.Slack.{costs_of, share_takes, found_no_node, found_none, found_next}
+use Rattle.shares.specs.Slack.{costs_of, found_no_node, found_none, found_next}
 use Rattle.shares.proofs.+capacity.Goals as goal
 
 pub returns-then-nodes-eq0 : goal.returns-then-nodes-eq0
@@ -21,10 +21,10 @@ pub overflow_add-result : goal.overflow_add-result
 overflow_add-result t c =
     let a = c.args in
     let found = found_next (costs_of a.send a.compute a.link a.node) c.requires.0 a.nodes a.window a.spare.now a.gap.now
-          c.difference.result c.difference-room.result c.difference-left.result c.smaller-2.result c.smaller-3.result
-          c.capacity.result c.capacity.new.spare c.capacity.new.gap
-          (omega arith) c.difference.ensures c.difference-room.ensures (omega arith) c.difference-left.ensures
-          c.smaller-2.ensures c.smaller-3.ensures c.capacity.ensures in
+    c.difference.result c.difference-room.result c.difference-left.result c.smaller-2.result c.smaller-3.result
+    c.capacity.result c.capacity.new.spare c.capacity.new.gap
+    (omega arith) c.difference.ensures c.difference-room.ensures (omega arith) c.difference-left.ensures
+    c.smaller-2.ensures c.smaller-3.ensures c.capacity.ensures in
     omega (arith, found.held, at_most_window (costs_of a.send a.compute a.link a.node) c.requires.0 a.nodes a.window)
 
 pub returns : goal.returns

@@ -1,6 +1,5 @@
 -- `shares::earliest_finish` meets its contract.
-use Rattle.std.proofs.Common.{◌≡◌, ℕ, true, sym, ap, ◌∙◌, arith, rules}
-use borrow.Author.Tests.{not-true, not-false}
+use Rattle.std.proofs.Common.{◌≡◌, ℕ, true, sym, ap, ◌∙◌, arith}
 use Rattle.shares.specs.Model.{earliest, answers}
 use Rattle.shares.specs.Answers.{answered_is, earliest_refused, earliest_answer, earliest_nothing, earliest_beyond}
 use Rattle.shares.proofs.earliest_finish.Goals as goal

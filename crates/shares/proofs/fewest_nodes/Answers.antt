@@ -1,5 +1,4 @@
-use Rattle.std.proofs.Common.{◌≡◌, ℕ, ◌+◌, ◌-◌, ◌≤◌, sym, refl, ap, ◌∙◌, arith, rules}
-use borrow.Author.Tests.{not-true, not-false}
+use Rattle.std.proofs.Common.{◌≡◌, ℕ, ◌+◌, sym, refl, ap, ◌∙◌, arith}
 use Rattle.shares.specs.declared.Share.{Share}
 use Rattle.shares.specs.Model
 use Rattle.shares.specs.Model.{next_of, first, left_after, capacity}

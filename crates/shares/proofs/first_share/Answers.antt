@@ -1,5 +1,5 @@
 -- `shares::first_share` meets its contract: at each early return not even 1 unit fits, or a unit costs nothing.
-use Rattle.std.proofs.Common.{sym, arith, rules}
+use Rattle.std.proofs.Common.{sym, arith}
 use native.Mathlib.Nat.{sub-add-eq}
 use Rattle.shares.specs.Model.{first}
 use Rattle.shares.specs.Capacity.{first_none, first_free}

@@ -1,14 +1,7 @@
 -- `shares::greedy_shares` meets its contract. The loop's invariant: the shares so far, and then the greedy list of the nodes and the
 -- window that are left, are the greedy list; behind them the array is 0. The measure is the nodes that are left.
-use Rattle.std.proofs.Common.{◌≡◌, ◌+◌, ◌-◌, ◌≤◌, ◌++◌, length, take, drop, replicate, sym, refl, ap, ◌∙◌, arith, length-set, rules}
-use native.Mathlib.Nat.{sub-zero}
-use borrow.Author.Tests.{not-true, not-false}
-use Rattle.shares.specs.declared.Share.{Share}
-use Rattle.shares.specs.Model.{first, greedy, next_of, stored}
-use Rattle.shares.specs.declared.Share.{Share}
-use Rattle.shares.specs.Answers.{answered_is, shares_refused, stored_more, greedy_stops, greedy_more, greedy_whole}
-use Rattle.shares.specs.declared.Share.{Share}
-use Rattle.shares.specs.declared.Share.{Share}
+use Rattle.std.proofs.Common.{◌≡◌, ◌-◌, ◌≤◌, ◌++◌, length, take, drop, replicate}
+use Rattle.shares.specs.Model.{greedy}
 use Rattle.shares.proofs.greedy_shares.Given as goal
 
 abbrev pub invariant-loop-count : goal.invariant-loop-count

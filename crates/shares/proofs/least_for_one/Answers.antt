@@ -1,5 +1,5 @@
 -- `shares::least_for_one` meets its contract. What the first share of the window holds takes both setups and its units, so no sum wraps.
-use Rattle.std.proofs.Common.{◌≤◌, sym, arith, rules}
+use Rattle.std.proofs.Common.{◌≤◌, sym, arith}
 use Rattle.shares.specs.Model.{first}
 use Rattle.shares.specs.Capacity.{capacity_one}
 use Rattle.shares.specs.Least.{earliest_is, earliest_short, one_within, one_least}

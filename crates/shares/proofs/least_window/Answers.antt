@@ -1,5 +1,5 @@
-use Rattle.std.proofs.Common.{◌≡◌, ℕ, ◌+◌, ◌-◌, ◌<◌, ◌≤◌, sym, refl, ◌∙◌, arith, rules}
-use Rattle.shares.specs.Model.{capacity, earliest}
+use Rattle.std.proofs.Common.{◌≡◌, ◌+◌, ◌-◌, ◌<◌, ◌≤◌, sym, refl, ◌∙◌, arith}
+use Rattle.shares.specs.Model.{capacity}
 use Rattle.shares.specs.Capacity.{longer}
 use Rattle.shares.specs.Least.{earliest_is, earliest_same, earliest_stays, earliest_short}
 use Rattle.shares.specs.Slack.{settled_found}

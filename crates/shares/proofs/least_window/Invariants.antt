@@ -1,10 +1,7 @@
 -- `shares::least_window` meets its contract. The loop's invariant: the least window is not above `high`, and every window below
 -- `low` is too short. The measure is what lies between them.
-use Rattle.std.proofs.Common.{◌≡◌, ℕ, ◌+◌, ◌-◌, ◌<◌, ◌≤◌, sym, refl, ◌∙◌, arith, rules}
+use Rattle.std.proofs.Common.{◌≡◌, ℕ, ◌-◌, ◌<◌, ◌≤◌}
 use Rattle.shares.specs.Model.{capacity, earliest}
-use Rattle.shares.specs.Capacity.{longer}
-use Rattle.shares.specs.Least.{earliest_is, earliest_same, earliest_stays, earliest_short}
-use Rattle.shares.specs.Slack.{settled_found}
 use Rattle.shares.proofs.least_window.Given as goal
 
 abbrev pub invariant-loop-low : goal.invariant-loop-low

@@ -1,5 +1,5 @@
 -- `shares::next_share` meets its contract. What a first share takes on the link lies within the window, or is the setup alone, so no sum wraps.
-use Rattle.std.proofs.Common.{◌+◌, ◌-◌, ◌*◌, ◌≤◌, arith, rules}
+use Rattle.std.proofs.Common.{◌+◌, ◌-◌, ◌*◌, ◌≤◌, arith}
 use Rattle.shares.specs.Model.{next_of, left}
 use Rattle.shares.specs.Capacity.{first_used}
 use Rattle.shares.proofs.next_share.Goals as goal

@@ -1,5 +1,5 @@
 -- `shares::product` is safe: what passes the test does not wrap.
-use Rattle.std.proofs.Common.{◌*◌, ◌≤◌, le-div_iff_mul-le, arith, rules}
+use Rattle.std.proofs.Common.{◌*◌, ◌≤◌, le-div_iff_mul-le, arith}
 use Rattle.shares.proofs.product.Goals as goal
 
 pub overflow_mul-result : goal.overflow_mul-result

@@ -1,5 +1,5 @@
 -- `shares::settles` meets its contract.
-use Rattle.std.proofs.Common.{rules, eq-eqb, ne_eqb}
+use Rattle.std.proofs.Common.{eq-eqb, ne_eqb}
 use Rattle.shares.proofs.settles.Goals as goal
 
 pub returns-then-next-size : goal.returns-then-next-size
