@@ -8,7 +8,7 @@ use Rattle.limits.specs.declared.FarmCosts.{FarmCosts}
 use Rattle.walk.specs.declared.Job.{Job}
 use Rattle.walk.specs.declared.FreeTimes.{FreeTimes}
 use Rattle.walk.specs.declared.Chunk.{Chunk}
-use Rattle.walk.specs.Model.{no_job, afters}
+use Rattle.walk.specs.Model.{no_job, after, afters}
 use Rattle.walk.specs.Chunks.{Sendable}
 use Rattle.timetable.specs.Model.{starts_after}
 
@@ -33,7 +33,7 @@ pub record RaisesAll (c : FarmCosts) (held : List ℕ) (js : List Job) : Type 0 
 pub afters_append : (b : FreeTimes) (xs ys : List Chunk) → afters b (xs ++ ys) ≡ afters (afters b xs) ys
 unfolding afters
 afters_append b [] ys = refl
-afters_append b (x ∷ xs) ys = afters_append _ xs ys
+afters_append b (x ∷ xs) ys = afters_append (after b x) xs ys
 
 -- ---- The first n jobs of an array, one by one
 

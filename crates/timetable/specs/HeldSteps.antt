@@ -20,12 +20,12 @@ add_to hs k a = set hs k (get_or hs k 0 + a)
 pub raised_append : (hs : List ℕ) (xs ys : List Chunk) → raised hs (xs ++ ys) ≡ raised (raised hs xs) ys
 unfolding raised
 raised_append hs [] ys = refl
-raised_append hs (x ∷ xs) ys = raised_append _ xs ys
+raised_append hs (x ∷ xs) ys = raised_append (add_to hs (x.show - 1) (holds x)) xs ys
 
 pub raised_length : (hs : List ℕ) (xs : List Chunk) → length (raised hs xs) ≡ length hs
 unfolding raised
 raised_length hs [] = refl
-raised_length hs (x ∷ xs) = raised_length _ xs ∙ length-set hs _ _
+raised_length hs (x ∷ xs) = raised_length (add_to hs (x.show - 1) (holds x)) xs ∙ length-set hs _ _
 
 -- A cell grows by at most what is added.
 add_most : (hs : List ℕ) (p k a : ℕ) → get_or (add_to hs p a) k 0 ≤ get_or hs k 0 + a
