@@ -1,7 +1,5 @@
 -- The lengths of the arrays that a value of a declared type holds.
-use mathlib.Core.Path.{sym, ◌∙◌}
 use mathlib.Core.List.{List}
-use lib.ListN.{length-map}
 use mir.Val.{Val}
 use denote.Laws.{Is}
 use denote.Struct.Declared.{row}
@@ -14,21 +12,21 @@ use Rattle.planner.specs.contracts.Farm as farm
 
 pub figures_sized : {vs : List Val} (f : Figures) → Is (row figures.the_type) f vs → FiguresSized f
 figures_sized f p = record {
-  allowances = sym (length-map f.allowances _) ∙ p.1.1.1.1.1.1.0.1.0.1;
-  held = sym (length-map f.held _) ∙ p.1.1.1.1.1.1.1.0.1.0.1;
-  free = sym (length-map f.free _) ∙ p.1.1.1.1.1.1.1.1.1.1.0.1.0.1;
-  jobs = sym (length-map f.jobs _) ∙ p.1.1.1.1.1.1.1.1.1.1.1.1.1.0.1.0.1;
+  allowances = p.1.1.1.1.1.1.0.1.0.1;
+  held = p.1.1.1.1.1.1.1.0.1.0.1;
+  free = p.1.1.1.1.1.1.1.1.1.1.0.1.0.1;
+  jobs = p.1.1.1.1.1.1.1.1.1.1.1.1.1.0.1.0.1;
 }
 
 pub cells_sized : {vs : List Val} (f : Farm) → Is (row farm.the_type) f vs → CellsSized f.nodes f.shares
-cells_sized f p = (sym (length-map f.nodes _) ∙ p.1.1.1.0.1.0.1, sym (length-map f.shares _) ∙ p.1.1.1.1.0.1.0.1)
+cells_sized f p = (p.1.1.1.0.1.0.1, p.1.1.1.1.0.1.0.1)
 
 pub stored_figures : {vs : List Val} (f : Farm) → Is (row farm.the_type) f vs → FiguresSized f.figures
 stored_figures f p = record {
-  allowances = sym (length-map f.figures.allowances _) ∙ p.1.1.0.1.1.1.1.1.1.0.1.0.1;
-  held = sym (length-map f.figures.held _) ∙ p.1.1.0.1.1.1.1.1.1.1.0.1.0.1;
-  free = sym (length-map f.figures.free _) ∙ p.1.1.0.1.1.1.1.1.1.1.1.1.1.0.1.0.1;
-  jobs = sym (length-map f.figures.jobs _) ∙ p.1.1.0.1.1.1.1.1.1.1.1.1.1.1.1.1.0.1.0.1;
+  allowances = p.1.1.0.1.1.1.1.1.1.0.1.0.1;
+  held = p.1.1.0.1.1.1.1.1.1.1.0.1.0.1;
+  free = p.1.1.0.1.1.1.1.1.1.1.1.1.1.0.1.0.1;
+  jobs = p.1.1.0.1.1.1.1.1.1.1.1.1.1.1.1.1.0.1.0.1;
 }
 
 -- What a farm means has lists of its lengths.

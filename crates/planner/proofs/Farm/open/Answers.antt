@@ -1,0 +1,7 @@
+-- `planner::Farm::open` meets its contract.
+use mathlib.Core.Path.{refl}
+use borrow.Author.Rules.{rules}
+use Rattle.planner.proofs.Farm.open.Goals as goal
+
+pub returns : goal.returns
+returns c = let o = c.open_figures-opening.ensures in record { says = o.says; hands = o.means _ _; nodes = refl; shares = refl }

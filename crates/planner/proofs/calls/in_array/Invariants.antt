@@ -1,0 +1,17 @@
+-- `planner::calls::in_array` meets its contract: what is copied so far stands in front of zeros.
+use mathlib.Core.Path.{◌≡◌, refl, sym, ap, ap₂, ◌∙◌}
+use mathlib.Core.List.{◌++◌}
+use Prim.Native.Nat.{ℕ, ◌≤◌, ◌-◌}
+use native.Mathlib.Omega.{arith}
+use lib.ListN.{length, take, drop, replicate, length-set, take-append-drop}
+use lib.Seq.{take-length}
+use Rattle.planner.specs.CallsSteps.{copy_next}
+use borrow.Author.Rules.{rules}
+use Rattle.planner.proofs.calls.in_array.Given as goal
+
+abbrev pub invariant-loop-i : goal.invariant-loop-i
+invariant-loop-i l =
+    (l.i ≤ length l.row) × (length l.out ≡ 32) × (take l.i l.out ≡ take l.i l.row) × (drop l.i l.out ≡ replicate (32 - l.i) 0)
+
+abbrev pub decreases-loop-i : goal.decreases-loop-i
+decreases-loop-i l = length l.row - l.i
