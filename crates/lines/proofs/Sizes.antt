@@ -11,7 +11,7 @@ use Rattle.reading.specs.contracts.Row as numbered
 use Rattle.lines.specs.contracts.Rest as rest
 
 pub bytes_length : {vs : List Val} (r : Rest) → Is (row rest.the_type) r vs → length r.bytes ≡ 1024
-bytes_length r p = sym (length-map r.bytes _) ∙ p.1.1.1.0.1.0.1
+bytes_length r p = p.1.1.1.0.1.0.1
 
 pub numbers_length : {vs : List Val} (r : Row) → Is (row numbered.the_type) r vs → length r.numbers ≡ 39
-numbers_length r p = sym (length-map r.numbers _) ∙ p.1.1.1.1.0.1.0.1
+numbers_length r p = p.1.1.1.1.0.1.0.1

@@ -4,11 +4,7 @@ use native.Mathlib.Omega.{arith}
 use lib.Seq.{take_all}
 use Rattle.printing.specs.Model.{line_text}
 use Rattle.printing.specs.declared.Word.TheVariants as word
-use Rattle.lines.proofs.answer.row_line.Statement.{statement}
-use Rattle.lines.proofs.answer.row_line.Tie as tie
+use Rattle.lines.proofs.answer.row_line.Goals as goal
 
-returns : tie.Need-returns
+pub returns : goal.returns
 returns c = (omega arith, ap (line_text word.Chunk) (take_all 8 c.args.row (omega arith)))
-
-pub row-line-spec : {M : Type 1} → statement M
-row-line-spec = tie.close (tie.spec returns)
