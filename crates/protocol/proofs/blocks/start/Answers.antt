@@ -1,0 +1,9 @@
+-- `protocol::blocks::start` meets its contract.
+use borrow.Author.Rules.{rules}
+use mathlib.Core.Path.{refl}
+use Rattle.planner.specs.Calls.{open_farm}
+use Rattle.protocol.proofs.blocks.start.Goals as goal
+
+pub returns : goal.returns
+unfolding open_farm
+returns c = (c.open_figures-opening.ensures.means, refl)
