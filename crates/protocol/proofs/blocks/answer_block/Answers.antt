@@ -1,7 +1,5 @@
 -- `protocol::blocks::answer_block` meets its contract: the farm is reachable, so it passes question 11 once opened.
 use mathlib.Core.Path.{◌≡◌, refl, ap, sym, subst, ◌∙◌}
-use mathlib.Core.Bool.{true}
-use Prim.Native.Nat.{◌≤◌}
 use native.Mathlib.Omega.{arith}
 use borrow.Author.Rules.{rules}
 use borrow.Author.Tests.{not-true, not-false}
@@ -106,17 +104,17 @@ loop-next-preserved-in-Query c =
     let turned = sym c.in_turn.ensures ∙ c.if-not-in_turn.false in
     let q = c.in-Query.query in
     let told : said c.match-query.told ≡ reply f (query_call q) = elim c.match-query.branch [
-            in-Account w ↦
-              ap said w.told-is ∙ w.account_unchecked-told.ensures
-              ∙ ap (λ (x : Query). reply f (query_call x)) (sym w.in-Account.is)
-          | in-Quote w ↦
-              ap said w.told-is ∙ w.quote_unchecked-told.ensures.0
-              ∙ ap (λ (x : Query). reply f (query_call x)) (sym w.in-Quote.is)
-          ] in
+      | in-Account w ↦
+          ap said w.told-is ∙ w.account_unchecked-told.ensures
+          ∙ ap (λ (x : Query). reply f (query_call x)) (sym w.in-Account.is)
+      | in-Quote w ↦
+          ap said w.told-is ∙ w.quote_unchecked-told.ensures.0
+          ∙ ap (λ (x : Query). reply f (query_call x)) (sym w.in-Quote.is)
+    ] in
     let plan : CellsSized c.match-query.plan_nodes c.match-query.plan_shares = elim c.match-query.branch [
-            in-Account w ↦ cells_same w.plan_nodes-is w.plan_shares-is l.invariant.3
-          | in-Quote w ↦ cells_same w.plan_nodes-is w.plan_shares-is w.quote_unchecked-told.ensures.1
-          ] in (
+      | in-Account w ↦ cells_same w.plan_nodes-is w.plan_shares-is l.invariant.3
+      | in-Quote w ↦ cells_same w.plan_nodes-is w.plan_shares-is w.quote_unchecked-told.ensures.1
+    ] in (
       line_answered l.invariant.0 c.find-end.ensures c.loop-next-test.true c.if-end-block.false
           c.row_behind-row.ensures (omega (arith, l.invariant.0.size, l.invariant.1, c.if-last-at.false))
           (by_order f c.row_behind-row.result c.order_of-order.ensures turned c.in-Query.is) (sym (query_keeps f q))
@@ -151,20 +149,20 @@ loop-next-preserved-then-decision c =
     let k = c.in-Command.command in
     let m = c.match-command in
     let D : Command → Type 0 =
-          λ (x : Command). Decides l.figures l.nodes l.shares (reply f (command_call x)) (handed f (command_call x)) m.decision
-            m.nodes m.shares in
+    λ (x : Command). Decides l.figures l.nodes l.shares (reply f (command_call x)) (handed f (command_call x)) m.decision
+    m.nodes m.shares in
     let d : D k = elim m.branch [
-            in-Offer w ↦
-              subst D (sym w.in-Offer.is)
-              (decided_same w.decision-is w.nodes-is w.shares-is w.offer_unchecked-decision.ensures.0)
-          | in-Withdraw w ↦
-              subst D (sym w.in-Withdraw.is)
-              (decided_same w.decision-is w.nodes-is w.shares-is w.withdraw_unchecked-decision.ensures)
-          ] in
+      | in-Offer w ↦
+          subst D (sym w.in-Offer.is)
+          (decided_same w.decision-is w.nodes-is w.shares-is w.offer_unchecked-decision.ensures.0)
+      | in-Withdraw w ↦
+          subst D (sym w.in-Withdraw.is)
+          (decided_same w.decision-is w.nodes-is w.shares-is w.withdraw_unchecked-decision.ensures)
+    ] in
     let plan : CellsSized m.plan_nodes m.plan_shares = elim m.branch [
-            in-Offer w ↦ cells_same w.plan_nodes-is w.plan_shares-is w.offer_unchecked-decision.ensures.1
-          | in-Withdraw w ↦ cells_same w.plan_nodes-is w.plan_shares-is l.invariant.3
-          ] in (
+      | in-Offer w ↦ cells_same w.plan_nodes-is w.plan_shares-is w.offer_unchecked-decision.ensures.1
+      | in-Withdraw w ↦ cells_same w.plan_nodes-is w.plan_shares-is l.invariant.3
+    ] in (
       line_answered l.invariant.0 c.find-end.ensures c.loop-next-test.true c.if-end-block.false
           c.row_behind-row.ensures (omega (arith, l.invariant.0.size, l.invariant.1, c.if-last-at.false))
           (by_order f c.row_behind-row.result c.order_of-order.ensures turned c.in-Command.is) (decided_granted d c.if-decision.true)
@@ -183,20 +181,20 @@ loop-next-preserved-else-decision c =
     let k = c.in-Command.command in
     let m = c.match-command in
     let D : Command → Type 0 =
-          λ (x : Command). Decides l.figures l.nodes l.shares (reply f (command_call x)) (handed f (command_call x)) m.decision
-            m.nodes m.shares in
+    λ (x : Command). Decides l.figures l.nodes l.shares (reply f (command_call x)) (handed f (command_call x)) m.decision
+    m.nodes m.shares in
     let d : D k = elim m.branch [
-            in-Offer w ↦
-              subst D (sym w.in-Offer.is)
-              (decided_same w.decision-is w.nodes-is w.shares-is w.offer_unchecked-decision.ensures.0)
-          | in-Withdraw w ↦
-              subst D (sym w.in-Withdraw.is)
-              (decided_same w.decision-is w.nodes-is w.shares-is w.withdraw_unchecked-decision.ensures)
-          ] in
+      | in-Offer w ↦
+          subst D (sym w.in-Offer.is)
+          (decided_same w.decision-is w.nodes-is w.shares-is w.offer_unchecked-decision.ensures.0)
+      | in-Withdraw w ↦
+          subst D (sym w.in-Withdraw.is)
+          (decided_same w.decision-is w.nodes-is w.shares-is w.withdraw_unchecked-decision.ensures)
+    ] in
     let plan : CellsSized m.plan_nodes m.plan_shares = elim m.branch [
-            in-Offer w ↦ cells_same w.plan_nodes-is w.plan_shares-is w.offer_unchecked-decision.ensures.1
-          | in-Withdraw w ↦ cells_same w.plan_nodes-is w.plan_shares-is l.invariant.3
-          ] in (
+      | in-Offer w ↦ cells_same w.plan_nodes-is w.plan_shares-is w.offer_unchecked-decision.ensures.1
+      | in-Withdraw w ↦ cells_same w.plan_nodes-is w.plan_shares-is l.invariant.3
+    ] in (
       line_answered l.invariant.0 c.find-end.ensures c.loop-next-test.true c.if-end-block.false
           c.row_behind-row.ensures (omega (arith, l.invariant.0.size, l.invariant.1, c.if-last-at.false))
           (by_order f c.row_behind-row.result c.order_of-order.ensures turned c.in-Command.is) (decided_refused d c.if-decision.false)
@@ -345,8 +343,7 @@ loop-next-preserved c =
     let a = c.args in
     let l = c.loop-next in
     let f = farm_of l.figures l.nodes l.shares in
-    let turned = sym c.in_turn.ensures ∙ c.if-not-in_turn.false in
-    (
+    let turned = sym c.in_turn.ensures ∙ c.if-not-in_turn.false in (
       line_answered l.invariant.0 c.find-end.ensures c.loop-next-test.true c.if-end-block.false
           c.row_behind-row.ensures (omega (arith, l.invariant.0.size, l.invariant.1, c.if-last-at.false))
           (by_order f c.row_behind-row.result c.order_of-order.ensures turned c.in-Unreadable.is) refl

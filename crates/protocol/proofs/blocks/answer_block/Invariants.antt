@@ -1,35 +1,10 @@
 -- `protocol::blocks::answer_block` meets its contract: the farm is reachable, so it passes question 11 once opened.
-use borrow.Author.Rules.{rules}
-use mathlib.Core.Path.{◌≡◌, refl, ap, sym, subst, ◌∙◌}
-use mathlib.Core.Logic.{⊎_elim}
-use mathlib.Core.Bool.{true}
-use mathlib.Core.List.{List}
-use Prim.Native.Nat.{ℕ, ◌+◌, ◌-◌, ◌≤◌, ◌<◌}
-use native.Mathlib.Omega.{arith}
-use borrow.Author.Tests.{not-true, not-false}
+use mathlib.Core.Path.{◌≡◌}
+use Prim.Native.Nat.{◌+◌, ◌-◌}
 use lib.ListN.{length}
-use Rattle.search.specs.Laws.{next_within}
-use Rattle.text.specs.Writing.{WroteWithin, within_same}
-use Rattle.reading.specs.declared.Row.{Row}
-use Rattle.planner.specs.declared.Move.{Move}
-use Rattle.planner.specs.declared.Figures.{Figures}
-use Rattle.planner.specs.Model.{Farm, farm_of, Sized}
-use Rattle.planner.specs.Passes.{passes_of}
-use Rattle.planner.specs.Calls.{said}
-use Rattle.planner.specs.Parts.{CellsSized, Decides}
-use Rattle.planner.specs.Call.{reply, handed}
-use Rattle.planner.specs.ClockSteps.{Begins, MoveDecides, move_refused, move_taken, none_due_yet}
-use Rattle.lines.specs.declared.Command.{Command}
-use Rattle.lines.specs.declared.Query.{Query}
-use Rattle.lines.specs.declared.Order.{Order}
-use Rattle.lines.specs.Model.{lent, asked, in_turn, Answered, answered_text, Pending}
-use Rattle.lines.specs.Feeding.{kept_all, stretch}
-use Rattle.lines.specs.PendingLine.{kept_row}
-use Rattle.lines.specs.Orders.{command_call, query_call, order_of, order_turn, order_answer, order_is, open_kind}
-use Rattle.lines.specs.Rows.{FarmRow, pending_of, row_in, by_row, allowances_in, row_farm, row_turn, row_unread, unread_text, opening_text, move_called}
-use Rattle.protocol.specs.Reachable.{Reachable, reachable_passes, reachable_sized}
-use Rattle.protocol.specs.CallSteps.{command_text, query_text, query_keeps, cells_same, decided_same, decided_granted, decided_refused, clock_plain, rows_asked, rows_fit, clock_text}
-use Rattle.protocol.specs.Blocks.{DayAt, day_start, day_reachable, day_took, day_rest, day_line}
+use Rattle.planner.specs.Model.{farm_of}
+use Rattle.planner.specs.Parts.{CellsSized}
+use Rattle.protocol.specs.Blocks.{DayAt}
 use Rattle.protocol.proofs.blocks.answer_block.Given as goal
 
 abbrev pub invariant-loop-next : goal.invariant-loop-next

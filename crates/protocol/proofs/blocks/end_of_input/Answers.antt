@@ -1,10 +1,9 @@
 -- `protocol::blocks::end_of_input` meets its contract.
-use borrow.Author.Rules.{rules}
 use mathlib.Core.Path.{sym}
 use Prim.Native.Nat.{◌≤◌}
 use native.Mathlib.Omega.{arith}
 use lib.ListN.{length}
-use Rattle.planner.specs.Model.{Farm, farm_of}
+use Rattle.planner.specs.Model.{farm_of}
 use Rattle.lines.specs.Rows.{pending_of}
 use Rattle.text.specs.Writing.{wrote_none, wrote_same, within_same}
 use Rattle.protocol.specs.Blocks.{end_small, end_empty, end_line, end_took}

@@ -1,5 +1,4 @@
 -- `protocol::blocks::start` meets its contract.
-use borrow.Author.Rules.{rules}
 use mathlib.Core.Path.{refl}
 use Rattle.planner.specs.Calls.{open_farm}
 use Rattle.protocol.proofs.blocks.start.Goals as goal
