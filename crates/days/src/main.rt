@@ -1,41 +1,71 @@
-// Runs the days that the file `days` names, one name a line, and prints each day's name and its answers. They go through the same code
-// as in farmday. The stored answers were compared with the second planner's.
+// Runs the days that the file `days` names, one name a line, and prints each day's name and its answers. They go through
+// the same code as in farmday. The stored answers were compared with the second planner's.
 #![tactic(auto)]
 
-use libc::STDOUT_FILENO;
+ghost use Rattle.std.specs.Prelude.{◌≤◌, length};
+
 use search::find;
+use std::fs::File;
+use std::io::Read;
+use std::rt::Files;
+use std::{io, str};
+
+// Says in a line on standard error what could not be opened, and why.
+fn tell_unopened(rt: &impl Eprint, name: &str, error: io::Error) {
+    let _ = eprintln!(rt; "{name}: {error}");
+}
 
 // One day: its name, then its answers.
-fn run_day(name: &[u8]) {
-    io::write_all(STDOUT_FILENO, name);
-    io::write_all(STDOUT_FILENO, b"\n");
-    let file = os::open_read(name);
-    if file < 0 {
-        os::fail(name);
-        return;
+fn run_day<R: Files + Print + Eprint>(rt: &R, name: &[u8]) -> io::Result<()> {
+    rt.write_all(name)?;
+    println!(rt)?;
+    let Ok(name) = str::from_utf8(name) else {
+        let _ = eprintln!(rt; "the name of a day is not text");
+        return Ok(());
+    };
+    match File::open(rt, name) {
+        Ok(mut file) => feeding::answer_stream(rt, &mut file, &mut io::writer(rt)),
+        Err(error) => tell_unopened(rt, name, error),
     }
-    feeding::answer_stream(file, STDOUT_FILENO);
-    libc::close(file);
+    Ok(())
 }
 
 // Each name of the list.
-fn run_all(names: &[u8]) {
+fn run_all<R: Files + Print + Eprint>(rt: &R, names: &[u8]) -> io::Result<()> {
     let mut next = 0;
     while next < names.len() {
         let end = find(names, next, b'\n');
-        run_day(&names[next..end]);
+        run_day(rt, &names[next..end])?;
         next = end + 1;
     }
+    Ok(())
 }
 
-fn main() {
-    let file = os::open_read(b"days");
-    if file < 0 {
-        os::fail(b"days");
-        return;
+// Reads until `buf` is full, the input ends or a read fails, and returns how many bytes it put at the start of `buf`.
+fn read_full<R: Read>(input: &mut R, buf: &mut [u8]) -> usize
+    ensures { result ≤ length buf.new }
+{
+    let mut done = 0;
+    while done < buf.len() {
+        let count = input.read(&mut buf[done..]).unwrap_or(0);
+        if count == 0 {
+            break;
+        }
+        done += count;
     }
-    let mut names = io::buffer();
-    let count = io::read_full(file, &mut names);
-    run_all(&names[0..count]);
-    libc::close(file);
+    done
+}
+
+fn main(rt: HostRuntime) -> io::Result<()> {
+    match File::open(&rt, "days") {
+        Ok(mut file) => {
+            let mut names = [0u8; 4096];
+            let count = read_full(&mut file, &mut names);
+            run_all(&rt, &names[0..count])
+        }
+        Err(error) => {
+            tell_unopened(&rt, "days", error);
+            Ok(())
+        }
+    }
 }

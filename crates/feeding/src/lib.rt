@@ -1,5 +1,5 @@
-// Days that come through a file descriptor: read in blocks, answered by the crate protocol, and the answers written. A
-// failed read or write ends a day, and says so in one line on standard error.
+// Days that come through a reader: read in blocks, answered by the crate protocol, and the answers written. A failed
+// read or write ends a day, and says so in one line on standard error.
 #![tactic(auto)]
 
 ghost use Rattle.std.specs.Prelude.{length};
@@ -9,8 +9,8 @@ ghost use Rattle.lines.specs.Rows.{pending_of};
 ghost use Rattle.protocol.specs.Reachable.{Reachable};
 ghost use Rattle.feeding.specs.Fed.{Answers};
 
-use libc::STDERR_FILENO;
 use protocol::Session;
+use std::io::{Read, Write};
 
 // A day so far, the place in the block up to which it was fed, and whether its answers could be written.
 #[derive(Clone, Copy)]
@@ -20,10 +20,15 @@ pub struct Sent {
     pub ok: bool,
 }
 
+// Hands answers on, whole and at once, and says whether the output took them.
+fn hand_on<W: Write>(output: &mut W, answers: &[u8]) -> bool {
+    output.write_all(answers).is_ok() && output.flush().is_ok()
+}
+
 // Answers a block. The answers are handed to the output at its end, and before it where `out` is full. It gives up only
 // behind answers that could not be written.
-fn answer_all(
-    output: i32,
+fn answer_all<W: Write>(
+    output: &mut W,
     session: Session,
     block: &[u8],
     rows: &mut [[u64; 8]; 1024],
@@ -62,7 +67,7 @@ fn answer_all(
         let written = done.written;
         day = done.session;
         next = done.next;
-        if !io::write_all(output, &out[0..written]) {
+        if !hand_on(output, &out[0..written]) {
             return Sent {
                 session: day,
                 next,
@@ -77,17 +82,18 @@ fn answer_all(
     }
 }
 
-fn tell_unread() {
-    io::write_all(STDERR_FILENO, b"the input could not be read\n");
+fn tell_unread(rt: &impl Eprint) {
+    let _ = eprintln!(rt; "the input could not be read");
 }
 
-fn tell_unwritten() {
-    io::write_all(STDERR_FILENO, b"the answers could not be written\n");
+fn tell_unwritten(rt: &impl Eprint) {
+    let _ = eprintln!(rt; "the answers could not be written");
 }
 
 // The end of the input: a last line may lack its newline.
-fn end(
-    output: i32,
+fn end<W: Write>(
+    rt: &impl Eprint,
+    output: &mut W,
     session: Session,
     rows: &mut [[u64; 8]; 1024],
     nodes: &mut [u8; 8192],
@@ -107,16 +113,16 @@ fn end(
         plan_shares,
         out,
     );
-    if !io::write_all(output, &out[0..written]) {
-        tell_unwritten();
+    if !hand_on(output, &out[0..written]) {
+        tell_unwritten(rt);
     }
 }
 
 // A day from `input` to `output`. One read a turn, so that lines that come one by one are answered as they come. The
 // turns are counted down from a number that no run uses up, since a proved loop has to end. The timetable's records and
 // the cells of the farm and of a plan are made once, and lent to every block.
-pub fn answer_stream(input: i32, output: i32) {
-    let mut block = io::large_buffer();
+pub fn answer_stream<R: Read, W: Write>(rt: &impl Eprint, input: &mut R, output: &mut W) {
+    let mut block = [0u8; 65536];
     let mut out = [0u8; 262144];
     let mut rows = [[0u64; 8]; 1024];
     let mut nodes = [0u8; 8192];
@@ -127,9 +133,13 @@ pub fn answer_stream(input: i32, output: i32) {
     let mut turns = u64::MAX;
     while turns > 0 {
         turns -= 1;
-        let got = libc::read(input, &mut block);
-        if got == 0 {
+        let Ok(count) = input.read(&mut block) else {
+            tell_unread(rt);
+            return;
+        };
+        if count == 0 {
             end(
+                rt,
                 output,
                 day,
                 &mut rows,
@@ -139,11 +149,6 @@ pub fn answer_stream(input: i32, output: i32) {
                 &mut plan_shares,
                 &mut out,
             );
-            return;
-        }
-        let count = io::count(got, &block);
-        if count == 0 {
-            tell_unread();
             return;
         }
         let sent = answer_all(
@@ -158,7 +163,7 @@ pub fn answer_stream(input: i32, output: i32) {
             &mut out,
         );
         if !sent.ok {
-            tell_unwritten();
+            tell_unwritten(rt);
             return;
         }
         day = sent.session;

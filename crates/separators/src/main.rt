@@ -1,12 +1,15 @@
-// Cuts made texts into lines and these into fields, by words and by bytes, and prints what both find: the sum of the places where fields end. Started with an argument, it
-// prints how many times quicker words are.
+// Cuts made texts into lines and these into fields, by words and by bytes, and prints what both find: the sum of the
+// places where fields end. Started with an argument, it prints how many times quicker words are.
 #![tactic(auto)]
 
 ghost use Rattle.std.specs.Prelude.{◌≤◌, length};
 
 use numbers::wide8;
 use search::{by_bytes, next_of};
+use std::env::FillError;
+use std::io;
 use std::num::{wrapping_add_u64, wrapping_sub_u64};
+use std::rt::{CpuClock, Env};
 
 // What a text is made of: fields of `least` digits and up to `spread` more, and so many fields to a line besides the last.
 #[derive(Clone, Copy)]
@@ -139,75 +142,72 @@ fn cut_all(text: &[u8], words: bool) -> u64 {
 
 // ---- What is printed
 
-fn put_places(text: &[u8]) {
-    io::write_all(1, b"\twords\t");
-    io::print_decimal(1, cut_all(text, true));
-    io::write_all(1, b"\tbytes\t");
-    io::print_decimal(1, cut_all(text, false));
+fn put_places(rt: &impl Print, text: &[u8]) -> io::Result<()> {
+    print!(rt; "\twords\t{}", cut_all(text, true))?;
+    print!(rt; "\tbytes\t{}", cut_all(text, false))
 }
 
-// A number above 0, and 0 for others.
-fn above_zero(n: i64) -> u64 {
-    if n > 0 { n as u64 } else { 0 }
+// The processor time used so far, in microseconds.
+fn ticks(rt: &impl CpuClock) -> io::Result<u64> {
+    let used = rt.process_cpu_time()?;
+    let whole = used.as_secs().wrapping_mul(1000000);
+    Ok(wrapping_add_u64(whole, used.subsec_micros() as u64))
 }
 
-// The processor time used so far.
-fn ticks() -> u64 {
-    above_zero(libc::clock())
-}
-
-fn run(text: &[u8], words: bool) -> Timed {
-    let begin = ticks();
+fn run(rt: &impl CpuClock, text: &[u8], words: bool) -> io::Result<Timed> {
+    let begin = ticks(rt)?;
     let sum = cut_all(text, words);
-    let end = ticks();
-    Timed {
+    let end = ticks(rt)?;
+    Ok(Timed {
         sum,
         ticks: wrapping_sub_u64(end, begin),
-    }
+    })
 }
 
 // Words and bytes, by turns.
-fn take_turns(text: &[u8]) -> Turns {
+fn take_turns(rt: &impl CpuClock, text: &[u8]) -> io::Result<Turns> {
     let mut words: u64 = 0;
     let mut bytes: u64 = 0;
     let mut other: u64 = 0;
     for _ in 0..100u64 {
-        let x = run(text, true);
-        let y = run(text, false);
+        let x = run(rt, text, true)?;
+        let y = run(rt, text, false)?;
         words = wrapping_add_u64(words, x.ticks);
         bytes = wrapping_add_u64(bytes, y.ticks);
         other = other | x.sum ^ y.sum;
     }
-    Turns {
+    Ok(Turns {
         words,
         bytes,
         other,
-    }
+    })
 }
 
 // How many times quicker words are, in hundredths.
-fn put_ratio(turns: Turns) {
+fn put_ratio(rt: &impl Print, turns: Turns) -> io::Result<()> {
     let ratio = turns.bytes / (turns.words / 100 + 1);
-    io::write_all(1, b"\t");
-    io::print_decimal(1, ratio / 100);
-    io::write_all(1, b".");
-    io::print_decimal(1, ratio / 10 % 10);
-    io::print_decimal(1, ratio % 10);
+    print!(rt; "\t{}.{}{}", ratio / 100, ratio / 10 % 10, ratio % 10)?;
     if turns.other != 0 {
-        io::write_all(1, b"\tother places");
+        print!(rt; "\tother places")?;
     }
+    Ok(())
 }
 
-fn try_text(name: &[u8], shape: Shape, ratios: bool) {
-    let mut text = io::large_buffer();
+fn try_text<R: Print + CpuClock>(
+    rt: &R,
+    name: &[u8],
+    shape: Shape,
+    ratios: bool,
+) -> io::Result<()> {
+    let mut text = [0u8; 65536];
     fill(&mut text, shape);
-    io::write_all(1, name);
+    rt.write_all(name)?;
     if ratios {
-        put_ratio(take_turns(&text));
+        put_ratio(rt, take_turns(rt, &text)?)?;
     } else {
-        put_places(&text);
+        put_places(rt, &text)?;
     }
-    io::write_all(1, b"\n");
+    println!(rt)
 }
 
 fn shaped(least: u64, spread: u8, fields: u64) -> Shape {
@@ -218,16 +218,23 @@ fn shaped(least: u64, spread: u8, fields: u64) -> Shape {
     }
 }
 
-fn main() {
-    let ratios = 1 < os::arg_count();
-    try_text(b"fields of 1 to 3 digits", shaped(1, 2, 3), ratios);
-    try_text(b"fields of 1 to 9 digits", shaped(1, 8, 3), ratios);
-    try_text(b"fields of 1 to 13 digits", shaped(1, 12, 3), ratios);
-    try_text(b"fields of 8 to 13 digits", shaped(8, 5, 3), ratios);
+// Whether the program was started with an argument.
+fn has_argument(rt: &impl Env) -> bool {
+    let mut start = [0u8; 1];
+    !matches!(rt.arg(1, &mut start), Err(FillError::NotPresent))
+}
+
+fn main(rt: HostRuntime) -> io::Result<()> {
+    let ratios = has_argument(&rt);
+    try_text(&rt, b"fields of 1 to 3 digits", shaped(1, 2, 3), ratios)?;
+    try_text(&rt, b"fields of 1 to 9 digits", shaped(1, 8, 3), ratios)?;
+    try_text(&rt, b"fields of 1 to 13 digits", shaped(1, 12, 3), ratios)?;
+    try_text(&rt, b"fields of 8 to 13 digits", shaped(8, 5, 3), ratios)?;
     try_text(
+        &rt,
         b"lines of two fields of 1 to 7 digits",
         shaped(1, 6, 1),
         ratios,
-    );
-    try_text(b"runs of 1,000 digits", shaped(1000, 0, 0), ratios);
+    )?;
+    try_text(&rt, b"runs of 1,000 digits", shaped(1000, 0, 0), ratios)
 }

@@ -6,6 +6,7 @@ ghost use Rattle.std.specs.Prelude.{◌≡◌};
 ghost use Rattle.windows.specs.Count.{count_of};
 
 use shares::{Costs, Fewest, Shares};
+use std::io;
 
 // The count that an answer names, and 0 where no count suffices.
 fn count_of(answer: Fewest) -> usize
@@ -26,48 +27,57 @@ fn check_counts() {
         linksetup: 0,
         nodesetup: 0,
     };
-    check::expect(count_of(shares::fewest_nodes(plain, 3, 10, 18)) == 2);
+    let plain_count = count_of(shares::fewest_nodes(plain, 3, 10, 18));
+    prove!(plain_count == 2);
     let even = Costs {
         send: 10,
         compute: 20,
         linksetup: 0,
         nodesetup: 0,
     };
-    check::expect(count_of(shares::fewest_nodes(even, 3, 4, 75)) == 3);
+    let even_count = count_of(shares::fewest_nodes(even, 3, 4, 75));
+    prove!(even_count == 3);
 }
 
-fn put(x: u64) {
-    io::write_all(1, b"\t");
-    io::print_decimal(1, x);
+fn put(rt: &impl Print, x: u64) -> io::Result<()> {
+    print!(rt; "\t{x}")
 }
 
-fn put_shares(shares: Shares) {
+fn put_shares(rt: &impl Print, shares: Shares) -> io::Result<()> {
     let units = shares.units;
     for i in 0..64 {
         if i < shares.count {
-            put(units[i]);
+            put(rt, units[i])?;
         }
     }
+    Ok(())
 }
 
-fn try_window(letter: u8, costs: Costs, nodes: usize, size: u64, window: u64) {
+fn try_window(
+    rt: &impl Print,
+    letter: u8,
+    costs: Costs,
+    nodes: usize,
+    size: u64,
+    window: u64,
+) -> io::Result<()> {
     let name = [letter];
-    io::write_all(1, &name);
+    rt.write_all(&name)?;
     match shares::fewest_nodes(costs, nodes, size, window) {
         Fewest::Nodes(count) => {
             let finish = shares::earliest_finish(costs, count, size, window);
-            put(count as u64);
-            put(finish);
-            put_shares(shares::greedy_shares(costs, count, finish));
+            put(rt, count as u64)?;
+            put(rt, finish)?;
+            put_shares(rt, shares::greedy_shares(costs, count, finish))?;
         }
         Fewest::None => {
-            io::write_all(1, b"\tnone");
+            print!(rt; "\tnone")?;
         }
     }
-    io::write_all(1, b"\n");
+    println!(rt)
 }
 
-fn main() {
+fn main(rt: HostRuntime) -> io::Result<()> {
     check_counts();
     let plain = Costs {
         send: 1,
@@ -75,26 +85,26 @@ fn main() {
         linksetup: 0,
         nodesetup: 0,
     };
-    try_window(b'A', plain, 64, 10, 30);
-    try_window(b'B', plain, 64, 10, 29);
-    try_window(b'C', plain, 64, 10, 18);
-    try_window(b'D', plain, 64, 10, 17);
-    try_window(b'E', plain, 3, 10, 14);
+    try_window(&rt, b'A', plain, 64, 10, 30)?;
+    try_window(&rt, b'B', plain, 64, 10, 29)?;
+    try_window(&rt, b'C', plain, 64, 10, 18)?;
+    try_window(&rt, b'D', plain, 64, 10, 17)?;
+    try_window(&rt, b'E', plain, 3, 10, 14)?;
     let even = Costs {
         send: 10,
         compute: 20,
         linksetup: 0,
         nodesetup: 0,
     };
-    try_window(b'F', even, 64, 4, 80);
-    try_window(b'G', even, 64, 4, 75);
+    try_window(&rt, b'F', even, 64, 4, 80)?;
+    try_window(&rt, b'G', even, 64, 4, 75)?;
     let setups = Costs {
         send: 1,
         compute: 2,
         linksetup: 2,
         nodesetup: 1,
     };
-    try_window(b'H', setups, 64, 3, 12);
-    try_window(b'I', setups, 64, 3, 10);
-    try_window(b'J', setups, 64, 3, 9);
+    try_window(&rt, b'H', setups, 64, 3, 12)?;
+    try_window(&rt, b'I', setups, 64, 3, 10)?;
+    try_window(&rt, b'J', setups, 64, 3, 9)
 }

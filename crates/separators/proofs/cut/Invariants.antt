@@ -1,0 +1,9 @@
+-- The loop goes on behind each line that was found.
+use Rattle.std.proofs.Common.{length, ◌-◌}
+use Rattle.separators.proofs.cut.Given as goal
+
+abbrev pub invariant-loop-at : goal.invariant-loop-at
+invariant-loop-at l = Unit {0}
+
+abbrev pub decreases-loop-at : goal.decreases-loop-at
+decreases-loop-at l = length l.text - l.at
