@@ -12,6 +12,7 @@ returns c =
     let n = c.put_numbers-line_end.ensures in
     let t = c.put_text.ensures in
     record {
-      wrote = wrote_join w.wrote (omega (arith, w.within)) (wrote_join n.wrote (omega (arith, w.within, n.within, wrote_length w.wrote (omega (arith, w.within)))) t);
+      wrote = wrote_join w.wrote (omega (arith, w.within))
+          (wrote_join n.wrote (omega (arith, w.within, n.within, wrote_length w.wrote (omega (arith, w.within)))) t);
       within = omega (arith, w.within, n.within, t.place);
     }

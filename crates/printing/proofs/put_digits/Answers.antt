@@ -9,8 +9,11 @@ loop-i-init c = (omega arith, refl, digits_none _ _ _ _)
 
 pub loop-i-preserved : goal.loop-i-preserved
 loop-i-preserved c =
-    let l = c.loop-i in
-    (omega arith, simp length-set l.invariant.1, digits_turn _ _ _ _ _ _ _ c.loop-i-test.true (omega arith) l.invariant.2)
+    let l = c.loop-i in (
+      omega arith,
+      simp length-set l.invariant.1,
+      digits_turn _ _ _ _ _ _ _ c.loop-i-test.true (omega arith) l.invariant.2,
+    )
 
 pub shape_of-out : goal.shape_of-out
 shape_of-out c = c.loop-i.invariant.1

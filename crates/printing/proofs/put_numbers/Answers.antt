@@ -16,8 +16,11 @@ loop-i-preserved c =
     let a = c.args in
     let l = c.loop-i in
     let q = c.put_number-place.ensures in
-    let p = wrote_join l.invariant.2.wrote (omega arith) q.wrote in
-    (omega arith, wrote_length p (omega arith), record { wrote = wrote_same (sym (tabbed_next a.numbers l.i (omega arith))) p; within = omega arith })
+    let p = wrote_join l.invariant.2.wrote (omega arith) q.wrote in (
+      omega arith,
+      wrote_length p (omega arith),
+      record { wrote = wrote_same (sym (tabbed_next a.numbers l.i (omega arith))) p; within = omega arith },
+    )
 
 pub returns : goal.returns
 returns c =

@@ -2,7 +2,8 @@ use mathlib.Core.Path.{◌≡◌, sym, ◌∙◌}
 use Prim.Native.Nat.{◌+◌, ◌*◌, ◌-◌}
 use native.Mathlib.Omega.{arith}
 use lib.ListN.{drop}
-use Rattle.reading.specs.Steps.{number_from, number_short, number_long, number_start, number_low, number_high, number_more, number_none, power_small, power_more}
+use Rattle.reading.specs.Steps.{number_from, number_short, number_long, number_start, number_low, number_high}
+use Rattle.reading.specs.Steps.{number_more, number_none, power_small, power_more}
 use Rattle.reading.proofs.digits.Goals as goal
 
 pub returns-then-n-lt1 : goal.returns-then-n-lt1
@@ -38,7 +39,9 @@ loop-i-preserved c =
     let a = c.args in
     let l = c.loop-i in
     let w = c.wide8-b in
-    let m : number_from l.value (drop l.i a.field.now) ≡ number_from (l.value * 10 + (w.result - 48)) (drop (l.i + 1) a.field.now) = number_more l.value a.field.now l.i (omega arith) w.result w.ensures.0 (omega arith) (omega arith) in
+    let f = a.field.now in
+    let m : number_from l.value (drop l.i f) ≡ number_from (l.value * 10 + (w.result - 48)) (drop (l.i + 1) f) =
+    number_more l.value f l.i (omega arith) w.result w.ensures.0 (omega arith) (omega arith) in
     (omega arith, power_more l.value w.result l.i l.invariant.1 (omega arith), sym m ∙ l.invariant.2)
 
 pub returns : goal.returns

@@ -15,5 +15,8 @@ returns-then-end-line c =
 pub returns : goal.returns
 returns c =
     let a = c.args in
-    let e = c.next_of-end in
-    (field_last a.line.now a.from e.result e.ensures (omega arith), omega arith, next_within (either tab newline) a.line.now a.from e.result e.ensures c.requires)
+    let e = c.next_of-end in (
+      field_last a.line.now a.from e.result e.ensures (omega arith),
+      omega arith,
+      next_within (either tab newline) a.line.now a.from e.result e.ensures c.requires,
+    )

@@ -14,7 +14,9 @@ returns-then-not-field c =
     let a = c.args in
     let l = c.loop-at in
     let f = c.field_from-field in
-    c.stopped.ensures ∙ sym (sym l.invariant.2 ∙ gathered_broken l.count l.numbers a.line.now l.at f.result c.loop-at-test.true f.ensures.0 (not-true _ c.if-not-field.true))
+    let b = gathered_broken l.count l.numbers a.line.now l.at f.result c.loop-at-test.true f.ensures.0
+    (not-true _ c.if-not-field.true) in
+    c.stopped.ensures ∙ sym (sym l.invariant.2 ∙ b)
 
 pub returns-then-not-x : goal.returns-then-not-x
 returns-then-not-x c =
@@ -22,8 +24,10 @@ returns-then-not-x c =
     let l = c.loop-at in
     let f = c.field_from-field in
     let d = c.digits-x in
-    let cut = behind_next a.line.now l.at f.result.end c.loop-at-test.true (field_whole a.line.now (l.at + 1) f.result f.ensures.0 (not-false _ c.if-not-field.false)) in
-    c.stopped-then-not-x.ensures ∙ sym (sym l.invariant.2 ∙ gathered_stop l.count l.numbers _ _ _ cut d.result d.ensures (not-true _ c.if-not-x.true))
+    let cut = behind_next a.line.now l.at f.result.end c.loop-at-test.true
+    (field_whole a.line.now (l.at + 1) f.result f.ensures.0 (not-false _ c.if-not-field.false)) in
+    let s = gathered_stop l.count l.numbers _ _ _ cut d.result d.ensures (not-true _ c.if-not-x.true) in
+    c.stopped-then-not-x.ensures ∙ sym (sym l.invariant.2 ∙ s)
 
 pub loop-at-preserved : goal.loop-at-preserved
 loop-at-preserved c =
@@ -31,8 +35,12 @@ loop-at-preserved c =
     let l = c.loop-at in
     let f = c.field_from-field in
     let d = c.digits-x in
-    let cut = behind_next a.line.now l.at f.result.end c.loop-at-test.true (field_whole a.line.now (l.at + 1) f.result f.ensures.0 (not-false _ c.if-not-field.false)) in
-    (omega arith, omega arith, sym (gathered_more l.count l.numbers _ _ _ cut d.result c.stored-next.result d.ensures (not-false _ c.if-not-x.false) c.stored-next.ensures) ∙ l.invariant.2)
+    let cut = behind_next a.line.now l.at f.result.end c.loop-at-test.true
+    (field_whole a.line.now (l.at + 1) f.result f.ensures.0 (not-false _ c.if-not-field.false)) in
+    let s = c.stored-next in
+    let known = not-false _ c.if-not-x.false in
+    let m = gathered_more l.count l.numbers _ _ _ cut d.result s.result d.ensures known s.ensures in
+    (omega arith, omega arith, sym m ∙ l.invariant.2)
 
 pub returns : goal.returns
 returns c =

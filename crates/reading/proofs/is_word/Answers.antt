@@ -18,8 +18,10 @@ returns-then-word-i c =
 pub loop-i-preserved : goal.loop-i-preserved
 loop-i-preserved c =
     let a = c.args in
-    let l = c.loop-i in
-    (omega arith, sym (same_more a.word.now a.other.now l.i (omega arith) (omega arith) c.if-word-i.false) ∙ l.invariant.1)
+    let l = c.loop-i in (
+      omega arith,
+      sym (same_more a.word.now a.other.now l.i (omega arith) (omega arith) c.if-word-i.false) ∙ l.invariant.1,
+    )
 
 pub returns : goal.returns
 returns c =

@@ -1,4 +1,5 @@
--- `reading::is_word` meets its contract. The loop's invariant: what is left of both decides. The measure is how much is left.
+-- `reading::is_word` meets its contract. The loop's invariant: what is left of both decides. The measure is how much is
+-- left.
 use mathlib.Core.Path.{◌≡◌}
 use Prim.Native.Nat.{◌-◌, ◌≤◌}
 use lib.ListN.{length, drop}

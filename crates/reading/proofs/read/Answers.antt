@@ -17,7 +17,8 @@ returns-then-not-x c =
     let k = c.kind_of-kind in
     let f = c.field_from-first in
     let cut = field_whole a.line.now 0 f.result f.ensures.0 (not-false _ c.if-not-first.false) in
-    c.unreadable-then-not-x.ensures ∙ sym (row_unknown a.line.now f.result.end k.result x.result cut k.ensures x.ensures (not-true _ c.if-not-x.true))
+    c.unreadable-then-not-x.ensures
+    ∙ sym (row_unknown a.line.now f.result.end k.result x.result cut k.ensures x.ensures (not-true _ c.if-not-x.true))
 
 pub returns-then-not-fitting : goal.returns-then-not-fitting
 returns-then-not-fitting c =
@@ -26,7 +27,9 @@ returns-then-not-fitting c =
     let k = c.kind_of-kind in
     let f = c.field_from-first in
     let cut = field_whole a.line.now 0 f.result f.ensures.0 (not-false _ c.if-not-first.false) in
-    c.unreadable-then-not-fitting.ensures ∙ sym (row_unfit a.line.now f.result.end k.result x.result cut k.ensures x.ensures (not-false _ c.if-not-x.false) (sym c.fitting.ensures ∙ c.if-not-fitting.true))
+    c.unreadable-then-not-fitting.ensures
+    ∙ sym (row_unfit a.line.now f.result.end k.result x.result cut k.ensures x.ensures
+    (not-false _ c.if-not-x.false) (sym c.fitting.ensures ∙ c.if-not-fitting.true))
 
 pub returns : goal.returns
 returns c =
@@ -35,4 +38,6 @@ returns c =
     let k = c.kind_of-kind in
     let f = c.field_from-first in
     let cut = field_whole a.line.now 0 f.result f.ensures.0 (not-false _ c.if-not-first.false) in
-    rw c.smaller_size.ensures (sym (row_read a.line.now f.result.end k.result x.result cut k.ensures x.ensures (not-false _ c.if-not-x.false) (sym c.fitting.ensures ∙ c.if-not-fitting.false)))
+    rw c.smaller_size.ensures
+    (sym (row_read a.line.now f.result.end k.result x.result cut k.ensures x.ensures
+    (not-false _ c.if-not-x.false) (sym c.fitting.ensures ∙ c.if-not-fitting.false)))

@@ -1,4 +1,5 @@
--- `search::by_bytes` meets its contract. The loop's invariant: what is wanted stands next where it stands next from i on. The measure is how much is left.
+-- `search::by_bytes` meets its contract. The loop's invariant: what is wanted stands next where it stands next from i
+-- on. The measure is how much is left.
 use Rattle.std.proofs.Common.{◌≡◌, ◌-◌, length}
 use Rattle.search.specs.Model.{either, next_place}
 use Rattle.search.proofs.by_bytes.Given as goal

@@ -6,4 +6,5 @@ pub returns : goal.returns
 returns c =
     let a = c.args in
     let f = c.ranges in
-    word_marks a.w a.byte c.wide8.result c.wrapping_sub_u64.result f.w.fits f.byte.fits c.wide8.ensures.0 c.wrapping_sub_u64.ensures.value
+    word_marks a.w a.byte c.wide8.result c.wrapping_sub_u64.result f.w.fits f.byte.fits
+    c.wide8.ensures.0 c.wrapping_sub_u64.ensures.value

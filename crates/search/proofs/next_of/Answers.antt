@@ -16,11 +16,13 @@ returns-then-t-ne0 c =
     let a = c.args in
     let e = c.eight in
     let m = c.marks-t in
-    omega (arith, word_found (either a.a a.b) a.text.now c.loop-i.i e.result m.result e.ensures m.ensures c.if-t-ne0.true, c.mark_place.ensures)
+    let p = word_found (either a.a a.b) a.text.now c.loop-i.i e.result m.result e.ensures m.ensures c.if-t-ne0.true in
+    omega (arith, p, c.mark_place.ensures)
 
 pub loop-i-preserved : goal.loop-i-preserved
 loop-i-preserved c =
     let a = c.args in
     let e = c.eight in
-    let p = word_passed (either a.a a.b) a.text.now c.loop-i.i e.result c.marks-t.result e.ensures c.marks-t.ensures c.if-t-ne0.false in
+    let m = c.marks-t in
+    let p = word_passed (either a.a a.b) a.text.now c.loop-i.i e.result m.result e.ensures m.ensures c.if-t-ne0.false in
     (omega arith, omega arith)
