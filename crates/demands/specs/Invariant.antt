@@ -7,7 +7,7 @@ use Rattle.std.proofs.lemmas.List.{length-replicate, get_or-replicate}
 use Rattle.lists.specs.Laws.{All, all_map, all_both, all_of, all_image, all_take, all_append, all_join, perm_all, map_join}
 use Rattle.queue.specs.Numbers.{of_number_has}
 use Rattle.limits.specs.declared.FarmCosts.{FarmCosts}
-use Rattle.shares.specs.Model.{sum, finish}
+use Rattle.shares.specs.Model.{sum}
 use Rattle.shares.specs.Lists.{Positive}
 use Rattle.booking.specs.Best.{units}
 use Rattle.walk.specs.declared.Job.{Job}

@@ -16,7 +16,7 @@ use Rattle.planner.specs.Passes.{passes_of}
 use Rattle.walk.specs.Chunks.{lines_each}
 use Rattle.walk.specs.Order.{by_start_perm, by_deadline_perm}
 use Rattle.walk.specs.Plan.{plan_numbers}
-use Rattle.planner.specs.Calls.{granted, has_number, of_number, new_job, queue_of, planned, accepts, with_plan, offer_asked, offer_said, offer_farm, OfferGranted, withdrawn_farm, withdraw_said, withdraw_farm}
+use Rattle.planner.specs.Calls.{has_number, of_number, new_job, queue_of, planned, accepts, with_plan, offer_asked, offer_said, offer_farm, OfferGranted, withdrawn_farm, withdraw_said, withdraw_farm}
 use Rattle.planner.specs.OfferSteps.{offer_granted}
 use Rattle.planner.specs.Clock.{starts_by, begun, lines_of_all, issued, moved_farm, move_asked, move_said, move_farm, move_memory}
 use Rattle.planner.specs.Call.{accepted_from}

@@ -1,8 +1,6 @@
 -- `answers::ask` meets its contract, one return a question.
 use mathlib.Core.Path.{sym, ◌∙◌}
-use borrow.Author.Tests.{not-true, not-false}
 use Rattle.answers.specs.Steps.{asked_show, asked_size, asked_compute, asked_deadline, asked_queue, asked_all}
-use borrow.Author.Rules.{rules}
 use Rattle.answers.proofs.ask.Goals as goal
 
 pub returns-then-not-known : goal.returns-then-not-known

@@ -1,5 +1,4 @@
 -- `answers::columns` meets its contract.
-use borrow.Author.Rules.{rules}
 use Rattle.answers.proofs.columns.Goals as goal
 
 pub returns : goal.returns

@@ -1,5 +1,4 @@
 -- `answers::yes` meets its contract.
-use borrow.Author.Rules.{rules}
 use Rattle.answers.proofs.yes.Goals as goal
 
 pub returns : goal.returns

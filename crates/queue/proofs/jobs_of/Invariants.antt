@@ -1,10 +1,8 @@
 -- `queue::jobs_of` meets its contract.
-use mathlib.Core.Path.{◌≡◌, refl, subst}
-use Prim.Native.Nat.{ℕ, ◌-◌, ◌≤◌, ◌<◌}
-use native.Mathlib.Omega.{arith}
-use lib.ListN.{length, take, length-set}
-use Rattle.walk.specs.View.{jobs_of, read_next}
-use borrow.Author.Rules.{rules}
+use mathlib.Core.Path.{◌≡◌}
+use Prim.Native.Nat.{◌-◌, ◌≤◌}
+use lib.ListN.{length, take}
+use Rattle.walk.specs.View.{jobs_of}
 use Rattle.queue.proofs.jobs_of.Given as goal
 
 abbrev pub invariant-loop-i : goal.invariant-loop-i

@@ -1,5 +1,4 @@
 -- `queue::new_job` meets its contract.
-use borrow.Author.Rules.{rules}
 use Rattle.queue.proofs.new_job.Goals as goal
 
 pub returns : goal.returns

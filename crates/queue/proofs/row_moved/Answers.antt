@@ -1,10 +1,9 @@
 use mathlib.Core.Path.{◌≡◌, ap, ◌∙◌}
 use mathlib.Core.List.{List}
-use Prim.Native.Nat.{ℕ, ◌+◌, ◌*◌, ◌-◌, ◌≤◌, ◌<◌}
+use Prim.Native.Nat.{ℕ, ◌+◌, ◌*◌, ◌<◌}
 use native.Mathlib.Omega.{arith}
 use lib.ListN.{length, set, get_or, drop}
 use Rattle.lists.specs.Rows.{row_moved, put_none, moved_next, moved_size}
-use borrow.Author.Rules.{rules}
 use Rattle.queue.proofs.row_moved.Goals as goal
 
 pub loop-i-init : goal.loop-i-init

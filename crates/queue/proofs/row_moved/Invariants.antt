@@ -1,11 +1,7 @@
 -- `queue::row_moved` meets its contract.
-use mathlib.Core.Path.{◌≡◌, ap, ◌∙◌}
-use mathlib.Core.List.{List}
-use Prim.Native.Nat.{ℕ, ◌+◌, ◌*◌, ◌-◌, ◌≤◌, ◌<◌}
-use native.Mathlib.Omega.{arith}
-use lib.ListN.{length, set, get_or, drop}
-use Rattle.lists.specs.Rows.{row_moved, put_none, moved_next, moved_size}
-use borrow.Author.Rules.{rules}
+use mathlib.Core.Path.{◌≡◌}
+use Prim.Native.Nat.{◌-◌, ◌≤◌}
+use Rattle.lists.specs.Rows.{row_moved}
 use Rattle.queue.proofs.row_moved.Given as goal
 
 abbrev pub invariant-loop-i : goal.invariant-loop-i

@@ -1,10 +1,9 @@
 use mathlib.Core.Path.{◌≡◌, ap, ◌∙◌}
 use mathlib.Core.List.{List}
-use Prim.Native.Nat.{ℕ, ◌+◌, ◌*◌, ◌-◌, ◌≤◌, ◌<◌}
+use Prim.Native.Nat.{ℕ, ◌+◌, ◌*◌, ◌<◌}
 use native.Mathlib.Omega.{arith}
 use lib.ListN.{set, get_or, drop}
 use Rattle.lists.specs.Rows.{row_from, put_none, from_next}
-use borrow.Author.Rules.{rules}
 use Rattle.queue.proofs.row_taken.Goals as goal
 
 pub loop-k-init : goal.loop-k-init

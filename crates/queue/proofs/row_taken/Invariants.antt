@@ -1,11 +1,7 @@
 -- `queue::row_taken` meets its contract.
-use mathlib.Core.Path.{◌≡◌, ap, ◌∙◌}
-use mathlib.Core.List.{List}
-use Prim.Native.Nat.{ℕ, ◌+◌, ◌*◌, ◌-◌, ◌≤◌, ◌<◌}
-use native.Mathlib.Omega.{arith}
-use lib.ListN.{set, get_or, drop}
-use Rattle.lists.specs.Rows.{row_from, put_none, from_next}
-use borrow.Author.Rules.{rules}
+use mathlib.Core.Path.{◌≡◌}
+use Prim.Native.Nat.{◌-◌, ◌≤◌}
+use Rattle.lists.specs.Rows.{row_from}
 use Rattle.queue.proofs.row_taken.Given as goal
 
 abbrev pub invariant-loop-k : goal.invariant-loop-k

@@ -1,12 +1,7 @@
 -- `queue::rows_taken` meets its contract.
-use mathlib.Core.Path.{◌≡◌, subst, ◌∙◌}
-use Prim.Native.Nat.{ℕ, ◌-◌, ◌≤◌, ◌<◌}
-use native.Mathlib.Omega.{arith}
-use lib.ListN.{length}
-use Rattle.lists.specs.Laws.{all_front}
-use Rattle.lists.specs.Rows.{Alike, alike_none, alike_next}
-use Rattle.walk.specs.View.{no_entry, Short, use_of}
-use borrow.Author.Rules.{rules}
+use Prim.Native.Nat.{◌-◌, ◌≤◌}
+use Rattle.lists.specs.Rows.{Alike}
+use Rattle.walk.specs.View.{use_of}
 use Rattle.queue.proofs.rows_taken.Given as goal
 
 abbrev pub invariant-loop-i : goal.invariant-loop-i

@@ -1,11 +1,9 @@
-use Prim.Native.Nat.{ℕ, ◌+◌, ◌-◌, ◌≤◌}
+use Prim.Native.Nat.{ℕ, ◌+◌}
 use lib.ListN.{length, get_or, drop}
 use Rattle.soundness.specs.Model.{none_of, all_differ}
 use mathlib.Core.Path.{◌≡◌, sym, ap, ◌∙◌}
 use native.Mathlib.Omega.{arith}
-use borrow.Author.Tests.{not-true, not-false}
 use Rattle.soundness.specs.Steps.{differ_more, differ_stop, differ_none, part_rest}
-use borrow.Author.Rules.{rules}
 use Rattle.soundness.proofs.all_differ.Goals as goal
 
 pub returns-then-not-none_of : goal.returns-then-not-none_of

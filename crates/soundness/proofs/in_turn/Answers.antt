@@ -6,7 +6,6 @@ use lib.ListN.{length}
 use Rattle.walk.specs.declared.Job.{Job}
 use Rattle.walk.specs.Model.{start_of, spans_of_all, fit_all}
 use Rattle.walk.specs.OrderSteps.{ordered_inside, ordered_whole}
-use borrow.Author.Rules.{rules}
 use Rattle.soundness.proofs.in_turn.Goals as goal
 
 pub jobs_fit-requires : goal.jobs_fit-requires

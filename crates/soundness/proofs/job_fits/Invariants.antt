@@ -2,14 +2,10 @@
 -- chunks that are left.
 use mathlib.Core.Path.{◌≡◌}
 use Prim.Native.Nat.{◌-◌, ◌≤◌}
-use native.Mathlib.Omega.{arith}
-use lib.ListN.{length, length-set}
-use Rattle.walk.specs.declared.FreeTimes.{FreeTimes}
+use lib.ListN.{length}
 use Rattle.walk.specs.Model.{greatest}
-use Rattle.walk.specs.Chunks.{latest_from, node_known, ends_next, ends_all, chunk_fits}
-use Rattle.walk.proofs.Sizes.{nodes_length, shares_length, free_length}
-use Rattle.soundness.specs.Steps.{bounded_sends, Fitting, fitting_start, fitting_more, fitting_link, fitting_node, fitting_all}
-use borrow.Author.Rules.{rules}
+use Rattle.walk.specs.Chunks.{latest_from}
+use Rattle.soundness.specs.Steps.{Fitting}
 use Rattle.soundness.proofs.job_fits.Given as goal
 
 abbrev pub invariant-loop-i : goal.invariant-loop-i

@@ -1,8 +1,6 @@
 -- `soundness::job_passes` meets its contract: a job within its limits has sums that do not wrap.
 use mathlib.Core.Path.{sym, ◌∙◌}
-use borrow.Author.Tests.{not-true, not-false}
 use Rattle.soundness.specs.Steps.{no_overflow_of, job_out, job_early, job_whole}
-use borrow.Author.Rules.{rules}
 use Rattle.soundness.proofs.job_passes.Goals as goal
 
 pub returns-then-not-job_within : goal.returns-then-not-job_within

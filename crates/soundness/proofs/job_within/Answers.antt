@@ -4,7 +4,6 @@ use Prim.Native.Nat.{ℕ}
 use Rattle.limits.specs.Model.{between}
 use Rattle.limits.specs.Tests.{both}
 use Rattle.soundness.specs.Model.{job_within}
-use borrow.Author.Rules.{rules}
 use Rattle.soundness.proofs.job_within.Goals as goal
 
 pub returns : goal.returns

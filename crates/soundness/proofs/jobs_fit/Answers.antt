@@ -1,12 +1,11 @@
 use mathlib.Core.Path.{◌≡◌, sym, ap, ◌∙◌}
-use Prim.Native.Nat.{ℕ, ◌-◌, ◌≤◌}
+use Prim.Native.Nat.{ℕ, ◌≤◌}
 use native.Mathlib.Omega.{arith}
 use lib.ListN.{length, take}
 use lib.Seq.{slice}
 use borrow.Author.Tests.{not-true, not-false}
 use Rattle.walk.specs.Model.{spans_of_all, in_order, fit_all}
 use Rattle.soundness.specs.Steps.{key_inside, key_bounded, turn_more, turn_stop, turn_none}
-use borrow.Author.Rules.{rules}
 use Rattle.soundness.proofs.jobs_fit.Goals as goal
 
 pub offset_bounds-jobs-place : goal.offset_bounds-jobs-place

@@ -1,14 +1,10 @@
 -- `soundness::jobs_fit` meets its contract. The loop's invariant: the jobs that are left, behind the free times so far, decide. The measure is how many
 -- are left.
-use mathlib.Core.Path.{◌≡◌, sym, ap, ◌∙◌}
-use Prim.Native.Nat.{ℕ, ◌-◌, ◌≤◌}
-use native.Mathlib.Omega.{arith}
-use lib.ListN.{length, take}
+use mathlib.Core.Path.{◌≡◌}
+use Prim.Native.Nat.{◌-◌, ◌≤◌}
+use lib.ListN.{take}
 use lib.Seq.{slice}
-use borrow.Author.Tests.{not-true, not-false}
 use Rattle.walk.specs.Model.{spans_of_all, in_order, fit_all}
-use Rattle.soundness.specs.Steps.{key_inside, key_bounded, turn_more, turn_stop, turn_none}
-use borrow.Author.Rules.{rules}
 use Rattle.soundness.proofs.jobs_fit.Given as goal
 
 abbrev pub invariant-loop-i : goal.invariant-loop-i

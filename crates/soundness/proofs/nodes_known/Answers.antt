@@ -1,4 +1,4 @@
-use Prim.Native.Nat.{ℕ, min, ◌-◌, ◌≤◌, ◌<◌}
+use Prim.Native.Nat.{ℕ, min, ◌≤◌, ◌<◌}
 use mathlib.Core.Path.{◌≡◌, sym, ap, subst, ◌∙◌}
 use native.Mathlib.Omega.{arith}
 use lib.ListN.{length, get_or, take}
@@ -6,7 +6,6 @@ use lib.Seq.{slice}
 use Rattle.limits.specs.Tests.{take_least}
 use Rattle.soundness.specs.Model.{nodes_known}
 use Rattle.soundness.specs.Steps.{known_more, known_low, known_high, known_none}
-use borrow.Author.Rules.{rules}
 use Rattle.soundness.proofs.nodes_known.Goals as goal
 
 pub loop-i-init : goal.loop-i-init

@@ -1,13 +1,9 @@
 -- `soundness::nodes_known` meets its contract. The loop's invariant: what is left of the nodes decides. The measure is how many are left.
-use Prim.Native.Nat.{ℕ, min, ◌-◌, ◌≤◌, ◌<◌}
-use mathlib.Core.Path.{◌≡◌, sym, ap, subst, ◌∙◌}
-use native.Mathlib.Omega.{arith}
-use lib.ListN.{length, get_or, take}
+use Prim.Native.Nat.{◌-◌, ◌≤◌}
+use mathlib.Core.Path.{◌≡◌}
+use lib.ListN.{take}
 use lib.Seq.{slice}
-use Rattle.limits.specs.Tests.{take_least}
 use Rattle.soundness.specs.Model.{nodes_known}
-use Rattle.soundness.specs.Steps.{known_more, known_low, known_high, known_none}
-use borrow.Author.Rules.{rules}
 use Rattle.soundness.proofs.nodes_known.Given as goal
 
 abbrev pub invariant-loop-i : goal.invariant-loop-i

@@ -1,10 +1,9 @@
 use mathlib.Core.Path.{◌≡◌, sym, ap, ◌∙◌}
-use Prim.Native.Nat.{ℕ, ◌-◌, ◌≤◌}
+use Prim.Native.Nat.{ℕ}
 use native.Mathlib.Omega.{arith}
 use lib.ListN.{length, drop}
 use Rattle.soundness.specs.Model.{none_of}
 use Rattle.soundness.specs.Steps.{none_more, none_stop, none_none}
-use borrow.Author.Rules.{rules}
 use Rattle.soundness.proofs.none_of.Goals as goal
 
 pub returns-then-x-xs : goal.returns-then-x-xs

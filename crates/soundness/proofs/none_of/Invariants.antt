@@ -1,11 +1,8 @@
 -- `soundness::none_of` meets its contract. The loop's invariant: what is left of the list decides. The measure is how much is left.
-use mathlib.Core.Path.{◌≡◌, sym, ap, ◌∙◌}
-use Prim.Native.Nat.{ℕ, ◌-◌, ◌≤◌}
-use native.Mathlib.Omega.{arith}
+use mathlib.Core.Path.{◌≡◌}
+use Prim.Native.Nat.{◌-◌, ◌≤◌}
 use lib.ListN.{length, drop}
 use Rattle.soundness.specs.Model.{none_of}
-use Rattle.soundness.specs.Steps.{none_more, none_stop, none_none}
-use borrow.Author.Rules.{rules}
 use Rattle.soundness.proofs.none_of.Given as goal
 
 abbrev pub invariant-loop-i : goal.invariant-loop-i

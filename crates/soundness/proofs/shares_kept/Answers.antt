@@ -1,12 +1,10 @@
 use mathlib.Core.Bool.{◌&&◌}
 use mathlib.Core.Path.{◌≡◌, refl, sym, ap, ◌∙◌}
-use Prim.Native.Nat.{ℕ, ◌*◌, ◌-◌, ◌≤◌, ◌<◌}
+use Prim.Native.Nat.{ℕ, ◌<◌}
 use native.Mathlib.Omega.{arith}
 use lib.Dec.{leb, eqb}
-use Rattle.walk.specs.Model.{greatest}
 use Rattle.walk.proofs.Sizes.{nodes_length, shares_length}
-use Rattle.soundness.specs.Steps.{each_stored, kept_from, kept_start, kept_more, kept_small, kept_late, kept_none, sent_finish}
-use borrow.Author.Rules.{rules}
+use Rattle.soundness.specs.Steps.{each_stored, kept_start, kept_more, kept_small, kept_late, kept_none, sent_finish}
 use Rattle.soundness.proofs.shares_kept.Goals as goal
 
 pub loop-i-init : goal.loop-i-init

@@ -1,14 +1,9 @@
 -- `soundness::shares_kept` meets its contract. The loop's invariant: what is left of the shares decides, behind the units and the sends so far, which
 -- are bounded so that no sum wraps. The measure is the chunks that are left.
-use mathlib.Core.Bool.{◌&&◌}
-use mathlib.Core.Path.{◌≡◌, refl, sym, ap, ◌∙◌}
-use Prim.Native.Nat.{ℕ, ◌*◌, ◌-◌, ◌≤◌, ◌<◌}
-use native.Mathlib.Omega.{arith}
-use lib.Dec.{leb, eqb}
+use mathlib.Core.Path.{◌≡◌}
+use Prim.Native.Nat.{◌*◌, ◌-◌, ◌≤◌}
 use Rattle.walk.specs.Model.{greatest}
-use Rattle.walk.proofs.Sizes.{nodes_length, shares_length}
-use Rattle.soundness.specs.Steps.{each_stored, kept_from, kept_start, kept_more, kept_small, kept_late, kept_none, sent_finish}
-use borrow.Author.Rules.{rules}
+use Rattle.soundness.specs.Steps.{kept_from}
 use Rattle.soundness.proofs.shares_kept.Given as goal
 
 abbrev pub invariant-loop-i : goal.invariant-loop-i

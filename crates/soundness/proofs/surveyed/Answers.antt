@@ -1,13 +1,11 @@
 use mathlib.Core.Path.{◌≡◌, refl, sym, ap, subst, ◌∙◌}
 use mathlib.Core.Bool.{false≢true}
-use Prim.Native.Nat.{ℕ, ◌-◌, ◌≤◌}
+use Prim.Native.Nat.{ℕ, ◌≤◌}
 use native.Mathlib.Omega.{arith}
 use lib.ListN.{length, take, length-set}
 use lib.Seq.{slice}
-use borrow.Author.Tests.{not-true, not-false}
 use Rattle.soundness.specs.Model.{jobs_pass, job_numbers}
 use Rattle.soundness.specs.Steps.{pass_more, pass_stop, pass_none, numbers_more}
-use borrow.Author.Rules.{rules}
 use Rattle.soundness.proofs.surveyed.Goals as goal
 
 pub loop-i-init : goal.loop-i-init

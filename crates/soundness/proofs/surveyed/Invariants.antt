@@ -1,14 +1,9 @@
 -- `soundness::surveyed` meets its contract. The loop's invariant: the jobs that are left decide, and the first i numbers and keys are written.
-use mathlib.Core.Path.{◌≡◌, refl, sym, ap, subst, ◌∙◌}
-use mathlib.Core.Bool.{false≢true}
-use Prim.Native.Nat.{ℕ, ◌-◌, ◌≤◌}
-use native.Mathlib.Omega.{arith}
-use lib.ListN.{length, take, length-set}
+use mathlib.Core.Path.{◌≡◌}
+use Prim.Native.Nat.{◌-◌, ◌≤◌}
+use lib.ListN.{length, take}
 use lib.Seq.{slice}
-use borrow.Author.Tests.{not-true, not-false}
 use Rattle.soundness.specs.Model.{jobs_pass, job_numbers}
-use Rattle.soundness.specs.Steps.{pass_more, pass_stop, pass_none, numbers_more}
-use borrow.Author.Rules.{rules}
 use Rattle.soundness.proofs.surveyed.Given as goal
 
 abbrev pub invariant-loop-i : goal.invariant-loop-i

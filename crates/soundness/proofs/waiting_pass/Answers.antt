@@ -6,7 +6,6 @@ use borrow.Author.Tests.{not-true, not-false}
 use lib.ListN.{take}
 use Rattle.soundness.specs.Model.{all_differ, job_numbers}
 use Rattle.soundness.specs.Steps.{all_bounded, waiting_unsound, waiting_twice, waiting_rest}
-use borrow.Author.Rules.{rules}
 use Rattle.soundness.proofs.waiting_pass.Goals as goal
 
 pub returns-then-not-survey : goal.returns-then-not-survey

@@ -1,5 +1,4 @@
 -- `lines::answer::put_answer` meets its contract.
-use borrow.Author.Rules.{rules}
 use mathlib.Core.Path.{ap, ◌∙◌}
 use Rattle.text.specs.Writing.{within_same}
 use Prim.Native.Nat.{◌≤◌}

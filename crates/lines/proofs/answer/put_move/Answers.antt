@@ -1,5 +1,4 @@
 -- `lines::answer::put_move` meets its contract: the lines, and behind them the answer.
-use borrow.Author.Rules.{rules}
 use native.Mathlib.Omega.{arith}
 use Rattle.text.specs.Writing.{wrote_join}
 use Rattle.lines.proofs.answer.put_move.Goals as goal

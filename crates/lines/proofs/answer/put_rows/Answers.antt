@@ -1,8 +1,7 @@
-use borrow.Author.Rules.{rules}
 use mathlib.Core.Path.{◌≡◌, refl, subst}
-use Prim.Native.Nat.{ℕ, ◌+◌, ◌-◌, ◌*◌, ◌≤◌}
+use Prim.Native.Nat.{ℕ, ◌+◌, ◌*◌}
 use native.Mathlib.Omega.{arith}
-use lib.ListN.{length, take}
+use lib.ListN.{take}
 use Rattle.lines.specs.AnswerLines.{row_texts, row_next}
 use Rattle.text.specs.Writing.{WroteWithin, wrote_none, wrote_length}
 use Rattle.lines.proofs.answer.put_rows.Goals as goal

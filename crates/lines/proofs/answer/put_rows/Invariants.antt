@@ -1,11 +1,9 @@
 -- `lines::answer::put_rows` meets its contract.
-use borrow.Author.Rules.{rules}
-use mathlib.Core.Path.{◌≡◌, refl, subst}
-use Prim.Native.Nat.{ℕ, ◌+◌, ◌-◌, ◌*◌, ◌≤◌}
-use native.Mathlib.Omega.{arith}
+use mathlib.Core.Path.{◌≡◌}
+use Prim.Native.Nat.{◌-◌, ◌*◌, ◌≤◌}
 use lib.ListN.{length, take}
-use Rattle.lines.specs.AnswerLines.{row_texts, row_next}
-use Rattle.text.specs.Writing.{WroteWithin, wrote_none, wrote_length}
+use Rattle.lines.specs.AnswerLines.{row_texts}
+use Rattle.text.specs.Writing.{WroteWithin}
 use Rattle.lines.proofs.answer.put_rows.Given as goal
 
 abbrev pub invariant-loop-i : goal.invariant-loop-i

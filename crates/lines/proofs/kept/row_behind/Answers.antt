@@ -7,7 +7,6 @@ use lib.Seq.{length-take-le}
 use Rattle.lines.specs.Feeding.{stretch}
 use Rattle.lines.specs.Rows.{row_in}
 use Rattle.lines.specs.PendingLine.{row_whole, row_over}
-use borrow.Author.Rules.{rules}
 use Rattle.lines.proofs.kept.row_behind.Goals as goal
 
 pub returns-then-fill-gt0 : goal.returns-then-fill-gt0

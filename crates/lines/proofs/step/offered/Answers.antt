@@ -1,5 +1,4 @@
 -- `lines::step::offered` meets its contract, field by field.
-use borrow.Author.Rules.{rules}
 use Rattle.lines.proofs.step.offered.Goals as goal
 
 pub returns : goal.returns

@@ -1,5 +1,4 @@
 -- `lines::step::opening` meets its contract.
-use borrow.Author.Rules.{rules}
 use native.Mathlib.Omega.{arith}
 use Rattle.lines.proofs.Sizes.{numbers_length}
 use Rattle.lines.proofs.step.opening.Goals as goal

@@ -1,9 +1,7 @@
 -- `planner::Farm::account_answer` meets its contract: question 11, and then the account.
 use mathlib.Core.Path.{sym, ◌∙◌}
-use borrow.Author.Tests.{not-true, not-false}
 use Rattle.planner.specs.Model.{meant}
 use Rattle.planner.specs.CallsSteps.{account_unsound}
-use borrow.Author.Rules.{rules}
 use Rattle.planner.proofs.Farm.account_answer.Goals as goal
 
 pub returns-then-not-passes : goal.returns-then-not-passes

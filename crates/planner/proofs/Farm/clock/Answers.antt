@@ -1,5 +1,5 @@
 -- `Farm::clock` meets its contract: what `moving` issues is written to the front of the lent timetable.
-use mathlib.Core.Path.{◌≡◌, sym, subst, ◌∙◌}
+use mathlib.Core.Path.{sym, subst, ◌∙◌}
 use lib.ListN.{length}
 use Rattle.planner.specs.declared.Reply.{Reply}
 use Rattle.planner.specs.Model.{meant}
@@ -24,6 +24,6 @@ returns c =
           c.moving-issue.ensures.replies,
       c.write_lines.ensures
           ∙ due_written a.self.figures.costs (move_lines f a.time room) room c.moving-issue.result c.moving-issue.ensures.due
-              c.costs_of.result c.issued_jobs.result c.costs_of.ensures c.issued_jobs.ensures a.out.now
+          c.costs_of.result c.issued_jobs.result c.costs_of.ensures c.issued_jobs.ensures a.out.now
           ∙ sym (move_memory_lem f a.time a.out.now),
     )

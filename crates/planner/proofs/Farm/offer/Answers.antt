@@ -1,9 +1,7 @@
 -- `planner::Farm::offer` meets its contract: question 11, and then what the farm that passes decides.
 use mathlib.Core.Path.{refl, sym, ◌∙◌}
-use borrow.Author.Tests.{not-true, not-false}
 use Rattle.planner.specs.CallsSteps.{decides_replies, offer_unsound}
 use Rattle.planner.proofs.Sizes.{cells_sized}
-use borrow.Author.Rules.{rules}
 use Rattle.planner.proofs.Farm.offer.Goals as goal
 
 pub returns-then-not-passes : goal.returns-then-not-passes

@@ -1,6 +1,5 @@
 -- `planner::Farm::open` meets its contract.
 use mathlib.Core.Path.{refl}
-use borrow.Author.Rules.{rules}
 use Rattle.planner.proofs.Farm.open.Goals as goal
 
 pub returns : goal.returns

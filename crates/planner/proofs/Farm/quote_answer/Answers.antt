@@ -1,9 +1,7 @@
 -- `planner::Farm::quote_answer` meets its contract: question 11, and then the quote.
 use mathlib.Core.Path.{refl, sym, ◌∙◌}
-use borrow.Author.Tests.{not-true, not-false}
 use Rattle.planner.specs.Model.{meant}
 use Rattle.planner.specs.CallsSteps.{quote_unsound}
-use borrow.Author.Rules.{rules}
 use Rattle.planner.proofs.Farm.quote_answer.Goals as goal
 
 pub returns-then-not-passes : goal.returns-then-not-passes

@@ -1,5 +1,5 @@
 -- `Farm::show` meets its contract: what `showing` lists is written to the front of the lent timetable.
-use mathlib.Core.Path.{◌≡◌, sym, subst, ◌∙◌}
+use mathlib.Core.Path.{sym, subst, ◌∙◌}
 use lib.ListN.{length}
 use Rattle.planner.specs.declared.Reply.{Reply}
 use Rattle.planner.specs.Model.{meant}
@@ -23,6 +23,6 @@ returns c =
       subst (λ (x : Reply). Tells a.self x (shown_said f room)) (sym c.reply_of.ensures) c.showing-issue.ensures.replies,
       c.write_lines.ensures
           ∙ due_written a.self.figures.costs (shown_lines f room) room c.showing-issue.result c.showing-issue.ensures.due
-              c.costs_of.result c.issued_jobs.result c.costs_of.ensures c.issued_jobs.ensures a.out.now
+          c.costs_of.result c.issued_jobs.result c.costs_of.ensures c.issued_jobs.ensures a.out.now
           ∙ sym (show_memory f a.out.now),
     )

@@ -1,10 +1,8 @@
 -- `planner::Farm::withdraw` meets its contract: question 11, and then what the farm that passes decides.
 use mathlib.Core.Path.{sym, ◌∙◌}
-use borrow.Author.Tests.{not-true, not-false}
 use Rattle.planner.specs.CallsSteps.{decides_replies}
 use Rattle.planner.specs.WithdrawSteps.{withdraw_unsound}
 use Rattle.planner.proofs.Sizes.{cells_sized}
-use borrow.Author.Rules.{rules}
 use Rattle.planner.proofs.Farm.withdraw.Goals as goal
 
 pub returns-then-not-passes : goal.returns-then-not-passes

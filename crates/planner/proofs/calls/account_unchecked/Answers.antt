@@ -1,12 +1,10 @@
 -- `planner::calls::account_unchecked` meets its contract, one return a question.
 use mathlib.Core.Path.{sym, ◌∙◌}
 use native.Mathlib.Omega.{arith}
-use borrow.Author.Tests.{not-true, not-false}
 use Rattle.limits.specs.Says.{between_is}
 use Rattle.planner.specs.Model.{farm_of}
 use Rattle.planner.specs.PassesSteps.{passes_within}
 use Rattle.planner.specs.CallsSteps.{account_unknown, account_told}
-use borrow.Author.Rules.{rules}
 use Rattle.planner.proofs.calls.account_unchecked.Goals as goal
 
 pub returns-then-not-between : goal.returns-then-not-between

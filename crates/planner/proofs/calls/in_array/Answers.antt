@@ -1,11 +1,10 @@
 use mathlib.Core.Path.{◌≡◌, refl, sym, ap, ap₂, ◌∙◌}
 use mathlib.Core.List.{◌++◌}
-use Prim.Native.Nat.{ℕ, ◌≤◌, ◌-◌}
+use Prim.Native.Nat.{ℕ, ◌-◌}
 use native.Mathlib.Omega.{arith}
 use lib.ListN.{length, take, drop, replicate, length-set, take-append-drop}
 use lib.Seq.{take-length}
 use Rattle.planner.specs.CallsSteps.{copy_next}
-use borrow.Author.Rules.{rules}
 use Rattle.planner.proofs.calls.in_array.Goals as goal
 
 pub loop-i-init : goal.loop-i-init

@@ -1,12 +1,7 @@
 -- `planner::calls::in_array` meets its contract: what is copied so far stands in front of zeros.
-use mathlib.Core.Path.{◌≡◌, refl, sym, ap, ap₂, ◌∙◌}
-use mathlib.Core.List.{◌++◌}
-use Prim.Native.Nat.{ℕ, ◌≤◌, ◌-◌}
-use native.Mathlib.Omega.{arith}
-use lib.ListN.{length, take, drop, replicate, length-set, take-append-drop}
-use lib.Seq.{take-length}
-use Rattle.planner.specs.CallsSteps.{copy_next}
-use borrow.Author.Rules.{rules}
+use mathlib.Core.Path.{◌≡◌}
+use Prim.Native.Nat.{◌≤◌, ◌-◌}
+use lib.ListN.{length, take, drop, replicate}
 use Rattle.planner.proofs.calls.in_array.Given as goal
 
 abbrev pub invariant-loop-i : goal.invariant-loop-i

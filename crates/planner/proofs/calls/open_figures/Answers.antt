@@ -3,12 +3,10 @@ use mathlib.Core.Path.{◌≡◌, refl, sym, ap, ◌∙◌}
 use mathlib.Core.Bool.{true, false}
 use lib.ListN.{length}
 use lib.Seq.{take-length}
-use borrow.Author.Tests.{not-true, not-false}
 use Rattle.planner.specs.Model.{all_at_most, greatest}
 use Rattle.planner.specs.Calls.{shows_within}
 use Rattle.limits.specs.Says.{between_is}
 use Rattle.planner.specs.CallsSteps.{no_nodes, no_costs, no_shows, opens}
-use borrow.Author.Rules.{rules}
 use Rattle.planner.proofs.calls.open_figures.Goals as goal
 
 pub returns-then-not-between : goal.returns-then-not-between

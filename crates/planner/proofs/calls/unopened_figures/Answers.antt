@@ -1,5 +1,4 @@
 -- `planner::calls::unopened_figures` meets its contract.
-use borrow.Author.Rules.{rules}
 use Rattle.planner.proofs.calls.unopened_figures.Goals as goal
 
 pub returns : goal.returns

@@ -1,11 +1,9 @@
 -- `planner::clock::move_unchecked` meets its contract, one return a question.
 use mathlib.Core.Path.{refl, sym, ◌∙◌}
-use borrow.Author.Tests.{not-true, not-false}
 use Rattle.planner.specs.Model.{farm_of}
 use Rattle.planner.specs.Parts.{parts_sized}
 use Rattle.planner.specs.ClockSteps.{due_asked, decides_untimely, decides_unheld, decides_granted}
 use Rattle.planner.proofs.Sizes.{figures_sized}
-use borrow.Author.Rules.{rules}
 use Rattle.planner.proofs.clock.move_unchecked.Goals as goal
 
 pub due-found-requires : goal.due-found-requires

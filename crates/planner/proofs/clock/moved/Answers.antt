@@ -1,6 +1,5 @@
 use mathlib.Core.Path.{refl}
-use mathlib.Core.Logic.{⊎_elim}
-use Prim.Native.Nat.{◌+◌, ◌-◌, ◌≤◌}
+use Prim.Native.Nat.{◌+◌}
 use native.Mathlib.Omega.{arith}
 use Rattle.planner.specs.Model.{Farm, farm_of}
 use Rattle.planner.specs.Parts.{parts_sized}
@@ -71,23 +70,23 @@ loop-i-preserved c =
     let most = l.invariant.0 in (
       most,
       elim c.if-time-job.branch [
-        then-time-job w ↦
-          let k = w.if-time-job.true in
-          let y = w.if-kept-i in
-          let next : WaitsOn f t y.nodes y.shares y.jobs (l.kept + 1) (l.i + 1) =
-          elim y.branch [
-            then-kept-i u ↦
-              waits_same u.nodes-is u.shares-is u.jobs-is refl
-              (waits_moved f t z.jobs most l.nodes l.shares l.jobs l.kept l.i l.invariant.1 h k _ _
-               (passes_few f c.requires.1.passes) u.if-kept-i.true u.row_moved.ensures)
-          | else-kept-i u ↦
-              waits_same u.nodes-is u.shares-is u.jobs-is refl
-              (waits_stay f t z.jobs most l.nodes l.shares l.jobs l.kept l.i l.invariant.1 h k u.if-kept-i.false)
-          ] in
-          waits_same w.nodes-is w.shares-is w.jobs-is w.kept-is next
-      | else-time-job w ↦
-          waits_same w.nodes-is w.shares-is w.jobs-is w.kept-is
-          (waits_past f t z.jobs most l.nodes l.shares l.jobs l.kept l.i l.invariant.1 h w.if-time-job.false)
+        | then-time-job w ↦
+            let k = w.if-time-job.true in
+            let y = w.if-kept-i in
+            let next : WaitsOn f t y.nodes y.shares y.jobs (l.kept + 1) (l.i + 1) =
+            elim y.branch [
+              | then-kept-i u ↦
+                  waits_same u.nodes-is u.shares-is u.jobs-is refl
+                  (waits_moved f t z.jobs most l.nodes l.shares l.jobs l.kept l.i l.invariant.1 h k _ _
+                  (passes_few f c.requires.1.passes) u.if-kept-i.true u.row_moved.ensures)
+              | else-kept-i u ↦
+                  waits_same u.nodes-is u.shares-is u.jobs-is refl
+                  (waits_stay f t z.jobs most l.nodes l.shares l.jobs l.kept l.i l.invariant.1 h k u.if-kept-i.false)
+            ] in
+            waits_same w.nodes-is w.shares-is w.jobs-is w.kept-is next
+        | else-time-job w ↦
+            waits_same w.nodes-is w.shares-is w.jobs-is w.kept-is
+            (waits_past f t z.jobs most l.nodes l.shares l.jobs l.kept l.i l.invariant.1 h w.if-time-job.false)
       ],
     )
 

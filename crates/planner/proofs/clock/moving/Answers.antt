@@ -6,7 +6,6 @@ use Rattle.planner.specs.Model.{Farm, meant}
 use Rattle.planner.specs.Passes.{passes_of}
 use Rattle.planner.specs.ClockSteps.{Begins, waiting_few, move_unsound, move_stops, move_stays, move_goes, due_front, begins_few, begins_places}
 use Rattle.planner.proofs.Sizes.{cells_sized, farm_sized}
-use borrow.Author.Rules.{rules}
 use Rattle.planner.proofs.clock.moving.Goals as goal
 
 pub returns-then-not-passes : goal.returns-then-not-passes

@@ -3,7 +3,7 @@ use mathlib.Core.Path.{◌≡◌, refl, sym, subst, ◌∙◌}
 use mathlib.Core.Bool.{true}
 use Prim.Native.Nat.{◌≤◌, ◌<◌}
 use native.Mathlib.Omega.{arith}
-use borrow.Author.Tests.{not-true, not-false, le-leb, lt-leb}
+use borrow.Author.Tests.{le-leb, lt-leb}
 use lib.ListN.{length, take}
 use Rattle.lists.specs.Laws.{All}
 use Rattle.planner.specs.Model.{Farm, meant}
@@ -12,7 +12,6 @@ use Rattle.planner.specs.Clock.{shown}
 use Rattle.planner.specs.ClockSteps.{shown_unsound, shown_unheld, shown_asked_lem}
 use Rattle.planner.specs.ClockSteps.{CanBegin, waiting_few, by_start_can_begin, ordered_front, can_begin_few, shown_lines_lem, show_stops, show_goes}
 use Rattle.planner.proofs.Sizes.{cells_sized, farm_sized}
-use borrow.Author.Rules.{rules}
 use Rattle.planner.proofs.clock.showing.Goals as goal
 
 pub returns-then-not-passes : goal.returns-then-not-passes

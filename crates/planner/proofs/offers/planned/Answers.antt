@@ -1,12 +1,10 @@
 use mathlib.Core.Path.{ap, sym, ◌∙◌}
-use Prim.Native.Nat.{◌-◌, ◌≤◌, ◌<◌}
 use native.Mathlib.Omega.{arith}
 use borrow.Author.Tests.{not-true, not-false}
 use Rattle.walk.specs.declared.Job.{Job}
-use Rattle.walk.specs.View.{jobs_of, job_there}
-use Rattle.queue.specs.Steps.{Seeking, seek_start, seek_found, seek_on, seek_end}
+use Rattle.walk.specs.View.{job_there}
+use Rattle.queue.specs.Steps.{seek_start, seek_found, seek_on, seek_end}
 use Rattle.planner.specs.Calls.{yes_of}
-use Rattle.planner.specs.Parts.{FiguresSized}
 use Rattle.planner.specs.OfferSteps.{queued_ready, walk_refuses, planned_long, new_within, new_sends, walk_accepts}
 use Rattle.planner.proofs.Sizes.{figures_sized}
 use Rattle.planner.proofs.offers.planned.Goals as goal
@@ -72,10 +70,10 @@ offset_bounds-jobs-place-2 c =
     let ok = not-false _ c.if-not-plan.false in
     let sized = figures_sized a.figures c.well_formed.0 in
     let long = planned_long a.figures a.nodes.now a.shares.now a.job c.requires.1 sized c.walked-plan.result _ _
-          c.walked-plan.ensures ok in
+    c.walked-plan.ensures ok in
     let found = seek_end a.job.number _ _ long l.place l.end l.invariant c.loop-place-test.false in
     let within = new_within a.figures a.nodes.now a.shares.now a.job c.requires.1 sized c.walked-plan.result _ _
-          c.walked-plan.ensures ok l.place found in
+    c.walked-plan.ensures ok l.place found in
     omega (arith, within, c.requires.1.waiting)
 
 pub bounds-jobs-place-2 : goal.bounds-jobs-place-2
@@ -85,10 +83,10 @@ bounds-jobs-place-2 c =
     let ok = not-false _ c.if-not-plan.false in
     let sized = figures_sized a.figures c.well_formed.0 in
     let long = planned_long a.figures a.nodes.now a.shares.now a.job c.requires.1 sized c.walked-plan.result _ _
-          c.walked-plan.ensures ok in
+    c.walked-plan.ensures ok in
     let found = seek_end a.job.number _ _ long l.place l.end l.invariant c.loop-place-test.false in
     let within = new_within a.figures a.nodes.now a.shares.now a.job c.requires.1 sized c.walked-plan.result _ _
-          c.walked-plan.ensures ok l.place found in
+    c.walked-plan.ensures ok l.place found in
     omega (arith, within, c.requires.1.waiting, c.walked-plan.ensures.size)
 
 pub job_at-told-requires : goal.job_at-told-requires
@@ -98,10 +96,10 @@ job_at-told-requires c =
     let ok = not-false _ c.if-not-plan.false in
     let sized = figures_sized a.figures c.well_formed.0 in
     let long = planned_long a.figures a.nodes.now a.shares.now a.job c.requires.1 sized c.walked-plan.result _ _
-          c.walked-plan.ensures ok in
+    c.walked-plan.ensures ok in
     let found = seek_end a.job.number _ _ long l.place l.end l.invariant c.loop-place-test.false in
     let within = new_within a.figures a.nodes.now a.shares.now a.job c.requires.1 sized c.walked-plan.result _ _
-          c.walked-plan.ensures ok l.place found in
+    c.walked-plan.ensures ok l.place found in
     (omega (arith, within, c.requires.1.waiting), c.walked-plan.ensures.nodes_size, c.walked-plan.ensures.shares_size)
 
 pub yes-requires : goal.yes-requires

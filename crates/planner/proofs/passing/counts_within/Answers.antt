@@ -4,7 +4,6 @@ use Prim.Native.Nat.{ℕ}
 use Rattle.planner.specs.Model.{between}
 use Rattle.limits.specs.Tests.{both}
 use Rattle.planner.specs.Passes.{counts_within}
-use borrow.Author.Rules.{rules}
 use Rattle.planner.proofs.passing.counts_within.Goals as goal
 
 pub returns : goal.returns

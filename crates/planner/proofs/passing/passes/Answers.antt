@@ -1,13 +1,11 @@
 -- `passing::passes` meets its contract: the figures, and past them the waiting jobs.
 use mathlib.Core.Path.{◌≡◌, refl, ap, sym, ◌∙◌}
 use mathlib.Core.Bool.{true}
-use borrow.Author.Tests.{not-true, not-false}
 use Rattle.limits.specs.Tests.{both}
 use Rattle.planner.specs.Model.{meant, free_times_of}
 use Rattle.planner.specs.Passes.{waiting_pass, bounds_of}
 use Rattle.planner.specs.PassesSteps.{farm_within, farm_within_lem, usable, passes_out, passes_rest}
 use Rattle.planner.proofs.Sizes.{cells_sized}
-use borrow.Author.Rules.{rules}
 use Rattle.planner.proofs.passing.passes.Goals as goal
 
 pub returns-then-not-and : goal.returns-then-not-and

@@ -4,7 +4,6 @@ use Prim.Native.Nat.{ℕ}
 use lib.Dec.{leb}
 use Rattle.limits.specs.Tests.{both}
 use Rattle.planner.specs.Passes.{times_within}
-use borrow.Author.Rules.{rules}
 use Rattle.planner.proofs.passing.times_within.Goals as goal
 
 pub returns : goal.returns

@@ -1,6 +1,5 @@
 -- `quote::quote_unchecked` meets its contract: the offer decided, with the other word.
 use mathlib.Core.Path.{ap, ◌∙◌}
-use borrow.Author.Rules.{rules}
 use Rattle.planner.specs.Calls.{as_quote, quote_said}
 use Rattle.planner.proofs.quote.quote_unchecked.Goals as goal
 

@@ -1,12 +1,9 @@
-use borrow.Author.Rules.{rules}
-use mathlib.Core.Logic.{⊎_elim}
 use mathlib.Core.Path.{◌≡◌, refl, ◌∙◌}
-use Prim.Native.Nat.{◌-◌, ◌≤◌}
 use native.Mathlib.Omega.{arith}
 use Rattle.lists.specs.Places.{each_length}
 use Rattle.walk.specs.View.{job_at, jobs_of}
-use Rattle.queue.specs.Steps.{Leaving, leave_start, leave_end}
-use Rattle.queue.specs.RowSteps.{QueueSized, sized_moved, leave_moved, leave_few, leave_standing, leave_found}
+use Rattle.queue.specs.Steps.{leave_start, leave_end}
+use Rattle.queue.specs.RowSteps.{sized_moved, leave_moved, leave_few, leave_standing, leave_found}
 use Rattle.planner.specs.Model.{farm_of}
 use Rattle.planner.specs.PassesSteps.{passes_within, passes_few}
 use Rattle.planner.specs.WithdrawSteps.{withdraws_none, withdraws_one}
@@ -54,33 +51,33 @@ loop-i-preserved c =
     let n = a.number in
     let w = a.figures.waiting in
     elim c.if-kept-i.branch [
-      then-kept-i x ↦
-        let up = x.if-kept-i.true in
-        let short = leave_few n old w full few l.nodes l.shares l.jobs l.kept l.i h z l.invariant.2 up
-              (passes_few (farm_of a.figures a.nodes.now a.shares.now) c.requires.1) in
-        rw (x.nodes-is, x.shares-is, x.jobs-is, x.kept-is) (
-          few,
-          sized_moved l.nodes l.shares _ _ l.jobs l.kept l.i _ up (omega (arith, few, h)) z refl short x.row_moved.ensures,
-          leave_moved n old w full few l.nodes l.shares l.jobs l.kept l.i h z l.invariant.2 _ _ _ up refl short
-              x.row_moved.ensures,
-          λ q. absurd (omega (arith, up, q)),
-        )
-    | else-kept-i+then-job-number x ↦
-        rw (x.nodes-is, x.shares-is, x.jobs-is, x.kept-is) (
-          few,
-          z,
-          leave_standing n old w full few l.nodes l.shares l.jobs l.kept l.i h z l.invariant.2 x.if-kept-i.false
-              x.if-job-number.true,
-          λ q. l.invariant.3 (omega (arith, q)),
-        )
-    | else-kept-i+else-job-number x ↦
-        rw (x.nodes-is, x.shares-is, x.jobs-is, x.kept-is) (
-          few,
-          z,
-          leave_found n old w full few l.nodes l.shares l.jobs l.kept l.i h z l.invariant.2 x.if-kept-i.false
-              x.if-job-number.false,
-          λ q. l.invariant.3 (omega (arith, q)),
-        )
+      | then-kept-i x ↦
+          let up = x.if-kept-i.true in
+          let short = leave_few n old w full few l.nodes l.shares l.jobs l.kept l.i h z l.invariant.2 up
+          (passes_few (farm_of a.figures a.nodes.now a.shares.now) c.requires.1) in
+          rw (x.nodes-is, x.shares-is, x.jobs-is, x.kept-is) (
+            few,
+            sized_moved l.nodes l.shares _ _ l.jobs l.kept l.i _ up (omega (arith, few, h)) z refl short x.row_moved.ensures,
+            leave_moved n old w full few l.nodes l.shares l.jobs l.kept l.i h z l.invariant.2 _ _ _ up refl short
+                x.row_moved.ensures,
+            λ q. absurd (omega (arith, up, q)),
+          )
+      | else-kept-i+then-job-number x ↦
+          rw (x.nodes-is, x.shares-is, x.jobs-is, x.kept-is) (
+            few,
+            z,
+            leave_standing n old w full few l.nodes l.shares l.jobs l.kept l.i h z l.invariant.2 x.if-kept-i.false
+                x.if-job-number.true,
+            λ q. l.invariant.3 (omega (arith, q)),
+          )
+      | else-kept-i+else-job-number x ↦
+          rw (x.nodes-is, x.shares-is, x.jobs-is, x.kept-is) (
+            few,
+            z,
+            leave_found n old w full few l.nodes l.shares l.jobs l.kept l.i h z l.invariant.2 x.if-kept-i.false
+                x.if-job-number.false,
+            λ q. l.invariant.3 (omega (arith, q)),
+          )
     ]
 
 pub returns-then-kept-waiting : goal.returns-then-kept-waiting

@@ -1,18 +1,10 @@
 -- `withdraw::withdraw_unchecked` meets its contract. The loop's invariant: the jobs looked at are kept, all or all but
 -- the one of the number; where all are, no row has moved.
-use borrow.Author.Rules.{rules}
-use mathlib.Core.Logic.{⊎_elim}
-use mathlib.Core.Path.{◌≡◌, refl, ◌∙◌}
+use mathlib.Core.Path.{◌≡◌}
 use Prim.Native.Nat.{◌-◌, ◌≤◌}
-use native.Mathlib.Omega.{arith}
-use Rattle.lists.specs.Places.{each_length}
-use Rattle.walk.specs.View.{job_at, jobs_of}
-use Rattle.queue.specs.Steps.{Leaving, leave_start, leave_end}
-use Rattle.queue.specs.RowSteps.{QueueSized, sized_moved, leave_moved, leave_few, leave_standing, leave_found}
-use Rattle.planner.specs.Model.{farm_of}
-use Rattle.planner.specs.PassesSteps.{passes_within, passes_few}
-use Rattle.planner.specs.WithdrawSteps.{withdraws_none, withdraws_one}
-use Rattle.planner.proofs.Sizes.{figures_sized}
+use Rattle.walk.specs.View.{jobs_of}
+use Rattle.queue.specs.Steps.{Leaving}
+use Rattle.queue.specs.RowSteps.{QueueSized}
 use Rattle.planner.proofs.withdraw.withdraw_unchecked.Given as goal
 
 abbrev pub invariant-loop-i : goal.invariant-loop-i
