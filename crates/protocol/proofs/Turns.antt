@@ -11,18 +11,27 @@ use Rattle.search.specs.Laws.{next_within}
 use Rattle.text.specs.Model.{newline}
 use Rattle.text.specs.Writing.{WroteWithin}
 use Rattle.reading.specs.declared.Row.{Row}
+use Rattle.answers.specs.declared.Answer.{Answer}
 use Rattle.planner.specs.declared.Move.{Move}
-use Rattle.planner.specs.Model.{Farm, Sized}
+use Rattle.planner.specs.declared.Figures.{Figures}
+use Rattle.planner.specs.declared.Decision.{Decision}
+use Rattle.planner.specs.Model.{Farm, farm_of, Sized}
+use Rattle.planner.specs.Calls.{said}
+use Rattle.planner.specs.Parts.{Decides}
+use Rattle.planner.specs.Call.{reply, handed}
 use Rattle.planner.specs.Passes.{passes_of}
 use Rattle.planner.specs.ClockSteps.{Begins, MoveDecides}
+use Rattle.lines.specs.declared.Command.{Command}
+use Rattle.lines.specs.declared.Query.{Query}
 use Rattle.lines.specs.declared.Order.{Order}
 use Rattle.lines.specs.declared.Rest.{Rest}
 use Rattle.lines.specs.Model.{lent, asked, in_turn, Answered, answered_text}
 use Rattle.lines.specs.Feeding.{kept_all, stretch}
 use Rattle.lines.specs.PendingLine.{kept_row}
-use Rattle.lines.specs.Orders.{order_of, order_turn, order_answer, order_is}
+use Rattle.lines.specs.Orders.{command_call, query_call, order_of, order_turn, order_answer, order_is}
 use Rattle.lines.specs.Rows.{pending_of, row_in, by_row, allowances_in, row_turn}
 use Rattle.protocol.specs.Reachable.{Reachable, reachable_passes, reachable_sized}
+use Rattle.protocol.specs.CallSteps.{decided_same}
 use Rattle.protocol.specs.Blocks.{DayAt, day_reachable, day_line}
 
 -- Where a line ends is in the block, or is the block's end.
@@ -74,3 +83,20 @@ pub day_begins : {f : Farm} {kept : Rest} {block : List ℕ} {from : ℕ} {entry
 day_begins {farm = farm} day reach o time step decides =
     let reached = day_reachable day reach in
     (reachable_sized farm reached o, record { passes = reachable_passes farm reached o; due = decides.due })
+
+-- A query is told what it asks, in whichever case it was asked,
+pub query_told : (f : Farm) {q case : Query} {told answer : Answer} → q ≡ case → told ≡ answer
+    → said answer ≡ reply f (query_call case) → said told ≡ reply f (query_call q)
+query_told f is same e = ap said same ∙ e ∙ ap (λ (x : Query). reply f (query_call x)) (sym is)
+
+-- and a command decided as its call is.
+pub command_decided : (figures : Figures) (nodes shares : List ℕ) {k case : Command} {d decision : Decision}
+    {ks xs ks' xs' : List ℕ} → k ≡ case → d ≡ decision → ks ≡ ks' → xs ≡ xs'
+    → (let f = farm_of figures nodes shares in
+    Decides figures nodes shares (reply f (command_call case)) (handed f (command_call case)) decision ks' xs')
+    → (let f = farm_of figures nodes shares in
+    Decides figures nodes shares (reply f (command_call k)) (handed f (command_call k)) d ks xs)
+command_decided figures nodes shares {d = d} {ks = ks} {xs = xs} is p q r x =
+    let f = farm_of figures nodes shares in
+    subst (λ (c : Command). Decides figures nodes shares (reply f (command_call c)) (handed f (command_call c)) d ks xs) (sym is)
+    (decided_same p q r x)

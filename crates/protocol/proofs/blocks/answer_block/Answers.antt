@@ -1,5 +1,5 @@
 -- `protocol::blocks::answer_block` meets its contract: the farm is reachable, so it passes question 11 once opened.
-use mathlib.Core.Path.{◌≡◌, refl, ap, sym, subst, ◌∙◌}
+use mathlib.Core.Path.{◌≡◌, refl, sym, subst, ◌∙◌}
 use native.Mathlib.Omega.{arith}
 use borrow.Author.Rules.{rules}
 use borrow.Author.Tests.{not-true, not-false}
@@ -9,14 +9,12 @@ use Rattle.planner.specs.Calls.{said}
 use Rattle.planner.specs.Parts.{CellsSized, Decides}
 use Rattle.planner.specs.Call.{reply, handed}
 use Rattle.planner.specs.ClockSteps.{move_refused, move_taken, none_due_yet}
-use Rattle.lines.specs.declared.Command.{Command}
-use Rattle.lines.specs.declared.Query.{Query}
 use Rattle.lines.specs.Model.{lent}
 use Rattle.lines.specs.Orders.{command_call, query_call, open_kind}
 use Rattle.lines.specs.Rows.{FarmRow, allowances_in, row_farm, row_unread, unread_text, opening_text, move_called}
-use Rattle.protocol.specs.CallSteps.{command_text, query_text, query_keeps, cells_same, decided_same, decided_granted, decided_refused, clock_plain, rows_asked, rows_fit, clock_text}
+use Rattle.protocol.specs.CallSteps.{command_text, query_text, query_keeps, cells_same, decided_granted, decided_refused, clock_plain, rows_asked, rows_fit, clock_text}
 use Rattle.protocol.specs.Blocks.{day_start, day_took, day_rest}
-use Rattle.protocol.proofs.Turns.{end_within, line_answered, turn_is, by_order, order_turned, day_passes, day_begins}
+use Rattle.protocol.proofs.Turns.{query_told, command_decided, end_within, line_answered, turn_is, by_order, order_turned, day_passes, day_begins}
 use Rattle.protocol.proofs.blocks.answer_block.Goals as goal
 use Rattle.protocol.proofs.blocks.answer_block.Goals.{in-Account, in-Quote, in-Offer, in-Withdraw}
 
@@ -105,11 +103,9 @@ loop-next-preserved-in-Query c =
     let q = c.in-Query.query in
     let told : said c.match-query.told ≡ reply f (query_call q) = elim c.match-query.branch [
       | in-Account w ↦
-          ap said w.told-is ∙ w.account_unchecked-told.ensures
-          ∙ ap (λ (x : Query). reply f (query_call x)) (sym w.in-Account.is)
+          query_told f w.in-Account.is w.told-is w.account_unchecked-told.ensures
       | in-Quote w ↦
-          ap said w.told-is ∙ w.quote_unchecked-told.ensures.0
-          ∙ ap (λ (x : Query). reply f (query_call x)) (sym w.in-Quote.is)
+          query_told f w.in-Quote.is w.told-is w.quote_unchecked-told.ensures.0
     ] in
     let plan : CellsSized c.match-query.plan_nodes c.match-query.plan_shares = elim c.match-query.branch [
       | in-Account w ↦ cells_same w.plan_nodes-is w.plan_shares-is l.invariant.3
@@ -148,16 +144,14 @@ loop-next-preserved-then-decision c =
     let turned = sym c.in_turn.ensures ∙ c.if-not-in_turn.false in
     let k = c.in-Command.command in
     let m = c.match-command in
-    let D : Command → Type 0 =
-    λ (x : Command). Decides l.figures l.nodes l.shares (reply f (command_call x)) (handed f (command_call x)) m.decision
-    m.nodes m.shares in
-    let d : D k = elim m.branch [
+    let d : Decides l.figures l.nodes l.shares (reply f (command_call k)) (handed f (command_call k)) m.decision m.nodes
+    m.shares = elim m.branch [
       | in-Offer w ↦
-          subst D (sym w.in-Offer.is)
-          (decided_same w.decision-is w.nodes-is w.shares-is w.offer_unchecked-decision.ensures.0)
+          command_decided l.figures l.nodes l.shares w.in-Offer.is w.decision-is w.nodes-is w.shares-is
+          w.offer_unchecked-decision.ensures.0
       | in-Withdraw w ↦
-          subst D (sym w.in-Withdraw.is)
-          (decided_same w.decision-is w.nodes-is w.shares-is w.withdraw_unchecked-decision.ensures)
+          command_decided l.figures l.nodes l.shares w.in-Withdraw.is w.decision-is w.nodes-is w.shares-is
+          w.withdraw_unchecked-decision.ensures
     ] in
     let plan : CellsSized m.plan_nodes m.plan_shares = elim m.branch [
       | in-Offer w ↦ cells_same w.plan_nodes-is w.plan_shares-is w.offer_unchecked-decision.ensures.1
@@ -180,16 +174,14 @@ loop-next-preserved-else-decision c =
     let turned = sym c.in_turn.ensures ∙ c.if-not-in_turn.false in
     let k = c.in-Command.command in
     let m = c.match-command in
-    let D : Command → Type 0 =
-    λ (x : Command). Decides l.figures l.nodes l.shares (reply f (command_call x)) (handed f (command_call x)) m.decision
-    m.nodes m.shares in
-    let d : D k = elim m.branch [
+    let d : Decides l.figures l.nodes l.shares (reply f (command_call k)) (handed f (command_call k)) m.decision m.nodes
+    m.shares = elim m.branch [
       | in-Offer w ↦
-          subst D (sym w.in-Offer.is)
-          (decided_same w.decision-is w.nodes-is w.shares-is w.offer_unchecked-decision.ensures.0)
+          command_decided l.figures l.nodes l.shares w.in-Offer.is w.decision-is w.nodes-is w.shares-is
+          w.offer_unchecked-decision.ensures.0
       | in-Withdraw w ↦
-          subst D (sym w.in-Withdraw.is)
-          (decided_same w.decision-is w.nodes-is w.shares-is w.withdraw_unchecked-decision.ensures)
+          command_decided l.figures l.nodes l.shares w.in-Withdraw.is w.decision-is w.nodes-is w.shares-is
+          w.withdraw_unchecked-decision.ensures
     ] in
     let plan : CellsSized m.plan_nodes m.plan_shares = elim m.branch [
       | in-Offer w ↦ cells_same w.plan_nodes-is w.plan_shares-is w.offer_unchecked-decision.ensures.1
