@@ -1,17 +1,17 @@
 -- Demand 1, a theorem a sentence:
 --   "The timetable memory lent to a call holds, after it, the lines of the answer at its front and its former
---    contents everywhere else;"                                                       move-writes, shown-writes
---   "after a refusal it is unchanged throughout, and so is the farm."                  open-keeps, call-keeps,
---                                                                                      move-keeps, shown-keeps,
---                                                                                      quote-keeps
+--    contents everywhere else;"                                                       move_writes, shown_writes
+--   "after a refusal it is unchanged throughout, and so is the farm."                  open_keeps, call_keeps,
+--                                                                                      move_keeps, shown_keeps,
+--                                                                                      quote_keeps
 --   "This is so for all arguments and lengths, and every call ends,"                   the functions' contracts, which have no `requires`
---   "refused exactly where the papers name a refusal and granted otherwise."           open-asks, offer-asks, quote-asks, withdraw-asks, move_asks,
---                                                                                      shown-asks, account-asks
+--   "refused exactly where the papers name a refusal and granted otherwise."           open_asks, offer_asks, quote_asks, withdraw_asks, move_asks,
+--                                                                                      shown_asks, account_asks
 --   document 02 (iv): "A quote takes what an offer takes and gives the same answer, job number and refusals included, as
---    offering to a copy of the farm. ... a quote given prints `quote` in place of `yes`."      quote-given, quote-refused
---   "The farm stays the same."                                                               quote-keeps
+--    offering to a copy of the farm. ... a quote given prints `quote` in place of `yes`."      quote_given, quote_refused
+--   "The farm stays the same."                                                               quote_keeps
 --   document 02 (vii): "The chunk record and its `chunk` line get an eighth field: the end of computing, which is send end + SC + units × p. It lies after
---    the send end and at or before the finish."                                          move-computes, shown-computes
+--    the send end and at or before the finish."                                          move_computes, shown_computes
 -- The contracts equate the functions of src/ with the definitions that these theorems speak of.
 use Rattle.std.specs.Prelude.{◌≡◌, Bool, cond, ◌&&◌, leb, ltb, length, get_or, drop}
 use Rattle.std.proofs.Math.Path.{refl}
