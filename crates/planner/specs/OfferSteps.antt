@@ -25,7 +25,7 @@ use Rattle.walk.specs.Chunks.{Sendable}
 use Rattle.walk.specs.Order.{by_deadline_perm}
 use Rattle.walk.specs.Plan.{plan_numbers, plan_length, plan_sends}
 use Rattle.queue.specs.Numbers.{number_of_job, has_number_lem}
-use Rattle.queue.specs.Steps.{place_of, place_job, has_place}
+use Rattle.queue.specs.Steps.{place_of, place_job, has_place, Seeking, seek_end}
 use Rattle.answers.specs.Steps.{no_number}
 use Rattle.answers.specs.declared.Offer.{Offer}
 use Rattle.answers.specs.declared.Question.{Question}
@@ -233,6 +233,13 @@ module _ (F : Figures) (ks xs : List ℕ) (h : QueueEntry) (o : Offered (farm_of
               refuses = λ t. absurd (false≢true (sym t));
               sizes = (w.nodes_size, w.shares_size);
             }
+
+      -- Where a search for the new job ends it is found, and its place is in the plan.
+      pub new_found : (place end : ℕ) → Seeking h.number (jobs_of pks pxs r.jobs) n place end → end ≤ place
+          → (place_of h.number (take n (jobs_of pks pxs r.jobs)) ≡ place) × (place < F.waiting + 1)
+      new_found place end x e =
+          let at = seek_end h.number (jobs_of pks pxs r.jobs) n planned_long place end x e in
+          (at, new_within place at)
 
 module _ (F : Figures) (ks xs : List ℕ) (o : Offer) where
   -- A question before the walk stops it.

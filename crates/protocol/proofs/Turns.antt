@@ -45,8 +45,8 @@ module _ {f : Farm} {kept : Rest} {block : List ℕ} {from : ℕ} {entry : List 
     (found : end ≡ next_place (this newline) block next) (more : next < length block) (ends : end ≡ length block → ⊥)
     {row : Row} (read : row ≡ row_in (kept_all (pending_of rest) (stretch next end block)))
     (room : at + 180400 ≤ length out) where
-  pub line_answered : {x : Answered} {later : Farm} {most place : ℕ} {back : List ℕ} → by_row farm row ≡ x → later ≡ x.farm
-      → WroteWithin most (answered_text x) at out back place → most ≤ 180400
+  pub line_answered : {x : Answered} {later : Farm} {most place : ℕ} {back : List ℕ}
+      → by_row farm row ≡ x → later ≡ x.farm → WroteWithin most (answered_text x) at out back place → most ≤ 180400
       → DayAt f kept block from entry later (record { fill = 0; bytes = rest.bytes }) (end + 1) place back
   line_answered b d p h =
       let said = kept_row farm rest (stretch next end block) ∙ sym (ap (by_row farm) read) ∙ b in
@@ -67,19 +67,20 @@ module _ (farm : Farm) (row : Row) {o : Order} (is : o ≡ order_of row.kind row
       ∙ (order_is farm row.kind row.count row.numbers (allowances_in row) farm.opened).1
       ∙ ap (λ (x : Order). order_answer farm x row.numbers (allowances_in row)) (sym is ∙ t)
 
-pub order_turned : (opened : Bool) {o told : Order} → order_turn o opened ≡ true → o ≡ told → order_turn told opened ≡ true
+pub order_turned : (opened : Bool) {o told : Order} → order_turn o opened ≡ true → o ≡ told
+    → order_turn told opened ≡ true
 order_turned opened e t = subst (λ (x : Order). order_turn x opened ≡ true) t e
 
 -- Once opened, the farm of a day passes question 11.
 pub day_passes : {f : Farm} {kept : Rest} {block : List ℕ} {from : ℕ} {entry : List ℕ} {farm : Farm} {rest : Rest}
-    {next at : ℕ} {out : List ℕ} → DayAt f kept block from entry farm rest next at out → Reachable f → farm.opened ≡ true
-    → passes_of farm ≡ true
+    {next at : ℕ} {out : List ℕ} → DayAt f kept block from entry farm rest next at out → Reachable f
+    → farm.opened ≡ true → passes_of farm ≡ true
 day_passes {farm = farm} day reach o = reachable_passes farm (day_reachable day reach) o
 
 -- What a clock move begins on it.
 pub day_begins : {f : Farm} {kept : Rest} {block : List ℕ} {from : ℕ} {entry : List ℕ} {farm : Farm} {rest : Rest}
-    {next at : ℕ} {out : List ℕ} → DayAt f kept block from entry farm rest next at out → Reachable f → farm.opened ≡ true
-    → (time : ℕ) (step : Move) → MoveDecides farm time lent step → Sized farm × Begins farm time step.due
+    {next at : ℕ} {out : List ℕ} → DayAt f kept block from entry farm rest next at out → Reachable f
+    → farm.opened ≡ true → (time : ℕ) (step : Move) → MoveDecides farm time lent step → Sized farm × Begins farm time step.due
 day_begins {farm = farm} day reach o time step decides =
     let reached = day_reachable day reach in
     (reachable_sized farm reached o, record { passes = reachable_passes farm reached o; due = decides.due })
@@ -98,5 +99,6 @@ pub command_decided : (figures : Figures) (nodes shares : List ℕ) {k case : Co
     Decides figures nodes shares (reply f (command_call k)) (handed f (command_call k)) d ks xs)
 command_decided figures nodes shares {d = d} {ks = ks} {xs = xs} is p q r x =
     let f = farm_of figures nodes shares in
-    subst (λ (c : Command). Decides figures nodes shares (reply f (command_call c)) (handed f (command_call c)) d ks xs) (sym is)
-    (decided_same p q r x)
+    let D : Command → Type 0 =
+    λ (c : Command). Decides figures nodes shares (reply f (command_call c)) (handed f (command_call c)) d ks xs in
+    subst D (sym is) (decided_same p q r x)

@@ -12,7 +12,8 @@ use Rattle.planner.specs.OfferSteps.{offer_granted, plans_no, plans_walked, new_
 use Rattle.planner.proofs.offers.decide_offer.Goals as goal
 
 -- Past the questions before the walk they are all answered yes.
-none_stops : (f : Farm) (o : Offer) (first : Asked) → asked_of first ≡ offer_asked f o → first ≡ Yes → offer_asked f o ≡ 0
+none_stops : (f : Farm) (o : Offer) (first : Asked) → asked_of first ≡ offer_asked f o → first ≡ Yes
+    → offer_asked f o ≡ 0
 none_stops f o first e is = sym e ∙ ap asked_of is
 
 pub overflow_add-figures : goal.overflow_add-figures
@@ -54,7 +55,8 @@ returns-in-No c =
     let a = c.args in
     let f = farm_of a.figures a.nodes.now a.shares.now in
     plans_no a.figures a.nodes.now a.shares.now a.offer _ _ _ _ _ _ c.requires.0
-    (sym (ap asked_of c.in-No.is) ∙ asked_passed f a.offer _ _ c.requires.1 c.compute_or-compute.ensures c.ask-first.ensures)
+    (sym (ap asked_of c.in-No.is)
+    ∙ asked_passed f a.offer _ _ c.requires.1 c.compute_or-compute.ensures c.ask-first.ensures)
 
 pub returns-in-Yes : goal.returns-in-Yes
 returns-in-Yes c =

@@ -12,9 +12,11 @@ use Rattle.planner.specs.ClockSteps.{move_refused, move_taken, none_due_yet}
 use Rattle.lines.specs.Model.{lent}
 use Rattle.lines.specs.Orders.{command_call, query_call, open_kind}
 use Rattle.lines.specs.Rows.{FarmRow, allowances_in, row_farm, row_unread, unread_text, opening_text, move_called}
-use Rattle.protocol.specs.CallSteps.{command_text, query_text, query_keeps, cells_same, decided_granted, decided_refused, clock_plain, rows_asked, rows_fit, clock_text}
+use Rattle.protocol.specs.CallSteps.{command_text, query_text, query_keeps, cells_same, decided_granted, decided_refused}
+use Rattle.protocol.specs.CallSteps.{clock_plain, rows_asked, rows_fit, clock_text}
 use Rattle.protocol.specs.Blocks.{day_start, day_took, day_rest}
-use Rattle.protocol.proofs.Turns.{query_told, command_decided, end_within, line_answered, turn_is, by_order, order_turned, day_passes, day_begins}
+use Rattle.protocol.proofs.Turns.{query_told, command_decided, end_within, line_answered, turn_is, by_order, order_turned}
+use Rattle.protocol.proofs.Turns.{day_passes, day_begins}
 use Rattle.protocol.proofs.blocks.answer_block.Goals as goal
 use Rattle.protocol.proofs.blocks.answer_block.Goals.{in-Account, in-Quote, in-Offer, in-Withdraw}
 
@@ -65,11 +67,11 @@ overflow_add-next c =
 
 pub loop-next-preserved-then-not-in_turn : goal.loop-next-preserved-then-not-in_turn
 loop-next-preserved-then-not-in_turn c =
-    let a = c.args in
     let l = c.loop-next in
     let f = farm_of l.figures l.nodes l.shares in
     let row = c.row_behind-row.result in
-    let unread = row_unread f row (turn_is f row c.order_of-order.ensures ∙ sym c.in_turn.ensures ∙ c.if-not-in_turn.true) in (
+    let unread = row_unread f row
+    (turn_is f row c.order_of-order.ensures ∙ sym c.in_turn.ensures ∙ c.if-not-in_turn.true) in (
       line_answered l.invariant.0 c.find-end.ensures c.loop-next-test.true c.if-end-block.false
           c.row_behind-row.ensures (omega (arith, l.invariant.0.size, l.invariant.1, c.if-last-at.false))
           unread refl (within_same (unread_text f) c.put_unread-at.ensures) (omega arith),
@@ -80,23 +82,18 @@ loop-next-preserved-then-not-in_turn c =
 
 pub account_unchecked-told-requires : goal.account_unchecked-told-requires
 account_unchecked-told-requires c =
-    let a = c.args in
     let l = c.loop-next in
-    let f = farm_of l.figures l.nodes l.shares in
     let turned = sym c.in_turn.ensures ∙ c.if-not-in_turn.false in
     day_passes l.invariant.0 c.requires.2 (order_turned l.figures.opened turned c.in-Query.is)
 
 pub quote_unchecked-told-requires : goal.quote_unchecked-told-requires
 quote_unchecked-told-requires c =
-    let a = c.args in
     let l = c.loop-next in
-    let f = farm_of l.figures l.nodes l.shares in
     let turned = sym c.in_turn.ensures ∙ c.if-not-in_turn.false in
     (l.invariant.3, day_passes l.invariant.0 c.requires.2 (order_turned l.figures.opened turned c.in-Query.is))
 
 pub loop-next-preserved-in-Query : goal.loop-next-preserved-in-Query
 loop-next-preserved-in-Query c =
-    let a = c.args in
     let l = c.loop-next in
     let f = farm_of l.figures l.nodes l.shares in
     let turned = sym c.in_turn.ensures ∙ c.if-not-in_turn.false in
@@ -122,91 +119,85 @@ loop-next-preserved-in-Query c =
 
 pub offer_unchecked-decision-requires : goal.offer_unchecked-decision-requires
 offer_unchecked-decision-requires c =
-    let a = c.args in
     let l = c.loop-next in
-    let f = farm_of l.figures l.nodes l.shares in
     let turned = sym c.in_turn.ensures ∙ c.if-not-in_turn.false in
-    (l.invariant.2, l.invariant.3, day_passes l.invariant.0 c.requires.2 (order_turned l.figures.opened turned c.in-Command.is))
+    let passes = day_passes l.invariant.0 c.requires.2 (order_turned l.figures.opened turned c.in-Command.is) in
+    (l.invariant.2, l.invariant.3, passes)
 
 pub withdraw_unchecked-decision-requires : goal.withdraw_unchecked-decision-requires
 withdraw_unchecked-decision-requires c =
-    let a = c.args in
     let l = c.loop-next in
-    let f = farm_of l.figures l.nodes l.shares in
     let turned = sym c.in_turn.ensures ∙ c.if-not-in_turn.false in
     (l.invariant.2, day_passes l.invariant.0 c.requires.2 (order_turned l.figures.opened turned c.in-Command.is))
 
 pub loop-next-preserved-then-decision : goal.loop-next-preserved-then-decision
 loop-next-preserved-then-decision c =
-    let a = c.args in
     let l = c.loop-next in
     let f = farm_of l.figures l.nodes l.shares in
     let turned = sym c.in_turn.ensures ∙ c.if-not-in_turn.false in
     let k = c.in-Command.command in
     let m = c.match-command in
-    let d : Decides l.figures l.nodes l.shares (reply f (command_call k)) (handed f (command_call k)) m.decision m.nodes
-    m.shares = elim m.branch [
-      | in-Offer w ↦
-          command_decided l.figures l.nodes l.shares w.in-Offer.is w.decision-is w.nodes-is w.shares-is
-          w.offer_unchecked-decision.ensures.0
-      | in-Withdraw w ↦
-          command_decided l.figures l.nodes l.shares w.in-Withdraw.is w.decision-is w.nodes-is w.shares-is
-          w.withdraw_unchecked-decision.ensures
-    ] in
-    let plan : CellsSized m.plan_nodes m.plan_shares = elim m.branch [
-      | in-Offer w ↦ cells_same w.plan_nodes-is w.plan_shares-is w.offer_unchecked-decision.ensures.1
-      | in-Withdraw w ↦ cells_same w.plan_nodes-is w.plan_shares-is l.invariant.3
+    let done : Decides l.figures l.nodes l.shares (reply f (command_call k)) (handed f (command_call k)) m.decision
+    m.nodes m.shares × CellsSized m.plan_nodes m.plan_shares = elim m.branch [
+      | in-Offer w ↦ (
+        command_decided l.figures l.nodes l.shares w.in-Offer.is w.decision-is w.nodes-is w.shares-is
+            w.offer_unchecked-decision.ensures.0,
+        cells_same w.plan_nodes-is w.plan_shares-is w.offer_unchecked-decision.ensures.1,
+      )
+      | in-Withdraw w ↦ (
+        command_decided l.figures l.nodes l.shares w.in-Withdraw.is w.decision-is w.nodes-is w.shares-is
+            w.withdraw_unchecked-decision.ensures,
+        cells_same w.plan_nodes-is w.plan_shares-is l.invariant.3,
+      )
     ] in (
       line_answered l.invariant.0 c.find-end.ensures c.loop-next-test.true c.if-end-block.false
           c.row_behind-row.ensures (omega (arith, l.invariant.0.size, l.invariant.1, c.if-last-at.false))
-          (by_order f c.row_behind-row.result c.order_of-order.ensures turned c.in-Command.is) (decided_granted d c.if-decision.true)
-          (within_same (command_text f k d.says) c.put_answer-at-in-Command.ensures) (omega arith),
+          (by_order f c.row_behind-row.result c.order_of-order.ensures turned c.in-Command.is)
+          (decided_granted done.0 c.if-decision.true)
+          (within_same (command_text f k done.0.says) c.put_answer-at-in-Command.ensures) (omega arith),
       l.invariant.1,
-      d.sizes,
-      plan,
+      done.0.sizes,
+      done.1,
     )
 
 pub loop-next-preserved-else-decision : goal.loop-next-preserved-else-decision
 loop-next-preserved-else-decision c =
-    let a = c.args in
     let l = c.loop-next in
     let f = farm_of l.figures l.nodes l.shares in
     let turned = sym c.in_turn.ensures ∙ c.if-not-in_turn.false in
     let k = c.in-Command.command in
     let m = c.match-command in
-    let d : Decides l.figures l.nodes l.shares (reply f (command_call k)) (handed f (command_call k)) m.decision m.nodes
-    m.shares = elim m.branch [
-      | in-Offer w ↦
-          command_decided l.figures l.nodes l.shares w.in-Offer.is w.decision-is w.nodes-is w.shares-is
-          w.offer_unchecked-decision.ensures.0
-      | in-Withdraw w ↦
-          command_decided l.figures l.nodes l.shares w.in-Withdraw.is w.decision-is w.nodes-is w.shares-is
-          w.withdraw_unchecked-decision.ensures
-    ] in
-    let plan : CellsSized m.plan_nodes m.plan_shares = elim m.branch [
-      | in-Offer w ↦ cells_same w.plan_nodes-is w.plan_shares-is w.offer_unchecked-decision.ensures.1
-      | in-Withdraw w ↦ cells_same w.plan_nodes-is w.plan_shares-is l.invariant.3
+    let done : Decides l.figures l.nodes l.shares (reply f (command_call k)) (handed f (command_call k)) m.decision
+    m.nodes m.shares × CellsSized m.plan_nodes m.plan_shares = elim m.branch [
+      | in-Offer w ↦ (
+        command_decided l.figures l.nodes l.shares w.in-Offer.is w.decision-is w.nodes-is w.shares-is
+            w.offer_unchecked-decision.ensures.0,
+        cells_same w.plan_nodes-is w.plan_shares-is w.offer_unchecked-decision.ensures.1,
+      )
+      | in-Withdraw w ↦ (
+        command_decided l.figures l.nodes l.shares w.in-Withdraw.is w.decision-is w.nodes-is w.shares-is
+            w.withdraw_unchecked-decision.ensures,
+        cells_same w.plan_nodes-is w.plan_shares-is l.invariant.3,
+      )
     ] in (
       line_answered l.invariant.0 c.find-end.ensures c.loop-next-test.true c.if-end-block.false
           c.row_behind-row.ensures (omega (arith, l.invariant.0.size, l.invariant.1, c.if-last-at.false))
-          (by_order f c.row_behind-row.result c.order_of-order.ensures turned c.in-Command.is) (decided_refused d c.if-decision.false)
-          (within_same (command_text f k d.says) c.put_answer-at-in-Command.ensures) (omega arith),
+          (by_order f c.row_behind-row.result c.order_of-order.ensures turned c.in-Command.is)
+          (decided_refused done.0 c.if-decision.false)
+          (within_same (command_text f k done.0.says) c.put_answer-at-in-Command.ensures) (omega arith),
       l.invariant.1,
-      d.sizes,
-      plan,
+      done.0.sizes,
+      done.1,
     )
 
 pub move_unchecked-step-requires : goal.move_unchecked-step-requires
 move_unchecked-step-requires c =
-    let a = c.args in
     let l = c.loop-next in
-    let f = farm_of l.figures l.nodes l.shares in
     let turned = sym c.in_turn.ensures ∙ c.if-not-in_turn.false in
     (l.invariant.2, day_passes l.invariant.0 c.requires.2 (order_turned l.figures.opened turned c.in-Clock.is))
 
 pub loop-next-preserved-then-not-step : goal.loop-next-preserved-then-not-step
 loop-next-preserved-then-not-step c =
-    let a = c.args in
     let l = c.loop-next in
     let f = farm_of l.figures l.nodes l.shares in
     let turned = sym c.in_turn.ensures ∙ c.if-not-in_turn.false in
@@ -225,7 +216,6 @@ loop-next-preserved-then-not-step c =
 
 pub loop-next-preserved-then-due-eq0 : goal.loop-next-preserved-then-due-eq0
 loop-next-preserved-then-due-eq0 c =
-    let a = c.args in
     let l = c.loop-next in
     let f = farm_of l.figures l.nodes l.shares in
     let turned = sym c.in_turn.ensures ∙ c.if-not-in_turn.false in
@@ -247,7 +237,6 @@ loop-next-preserved-then-due-eq0 c =
 
 pub write_rows-requires : goal.write_rows-requires
 write_rows-requires c =
-    let a = c.args in
     let l = c.loop-next in
     let f = farm_of l.figures l.nodes l.shares in
     let turned = sym c.in_turn.ensures ∙ c.if-not-in_turn.false in
@@ -260,9 +249,7 @@ write_rows-requires c =
 
 pub moved-figures-requires : goal.moved-figures-requires
 moved-figures-requires c =
-    let a = c.args in
     let l = c.loop-next in
-    let f = farm_of l.figures l.nodes l.shares in
     let turned = sym c.in_turn.ensures ∙ c.if-not-in_turn.false in
     let t = c.in-Clock.time in
     let step = c.move_unchecked-step.result in
@@ -273,7 +260,6 @@ moved-figures-requires c =
 
 pub put_move-at-requires : goal.put_move-at-requires
 put_move-at-requires c =
-    let a = c.args in
     let l = c.loop-next in
     let f = farm_of l.figures l.nodes l.shares in
     let turned = sym c.in_turn.ensures ∙ c.if-not-in_turn.false in
@@ -287,7 +273,6 @@ put_move-at-requires c =
 
 pub loop-next-preserved-else-due-eq0 : goal.loop-next-preserved-else-due-eq0
 loop-next-preserved-else-due-eq0 c =
-    let a = c.args in
     let l = c.loop-next in
     let f = farm_of l.figures l.nodes l.shares in
     let turned = sym c.in_turn.ensures ∙ c.if-not-in_turn.false in
@@ -315,7 +300,6 @@ opening-opened-requires c =
 
 pub loop-next-preserved-in-Open : goal.loop-next-preserved-in-Open
 loop-next-preserved-in-Open c =
-    let a = c.args in
     let l = c.loop-next in
     let f = farm_of l.figures l.nodes l.shares in
     let turned = sym c.in_turn.ensures ∙ c.if-not-in_turn.false in
@@ -332,7 +316,6 @@ loop-next-preserved-in-Open c =
 
 pub loop-next-preserved : goal.loop-next-preserved
 loop-next-preserved c =
-    let a = c.args in
     let l = c.loop-next in
     let f = farm_of l.figures l.nodes l.shares in
     let turned = sym c.in_turn.ensures ∙ c.if-not-in_turn.false in (
