@@ -4,15 +4,23 @@
 
 ghost use Rattle.std.specs.Prelude.{◌≤◌, length};
 
+use arrayvec::ArrayString;
 use search::find;
+use std::fmt::Write;
 use std::fs::File;
 use std::io::Read;
 use std::rt::Files;
 use std::{io, str};
 
-// Says in a line on standard error what could not be opened, and why.
+// Says in a line on standard error what could not be opened, and why: the words of the error, without the number that
+// the library puts behind them.
 fn tell_unopened(rt: &impl Eprint, name: &str, error: io::Error) {
-    let _ = eprintln!(rt; "{name}: {error}");
+    let mut told = ArrayString::<512>::new();
+    let _ = write!(told, "{error}");
+    let _ = match told.as_str().split_once(" (os error ") {
+        Some((words, _)) => eprintln!(rt; "{name}: {words}"),
+        None => eprintln!(rt; "{name}: {told}"),
+    };
 }
 
 // One day: its name, then its answers.
