@@ -1,16 +1,14 @@
 -- Offers, questions and answers, in the paper's words and numbers. Everything here is a definition; nothing is assumed.
-use Rattle.std.specs.Prelude.{ℕ, List, [], ◌∷◌, cond, ◌&&◌, leb, ltb}
+use Rattle.std.specs.Prelude.{ℕ, List, [], ◌∷◌, cond, ◌&&◌, leb, ltb, Option, None, Some, Result, Ok, Err}
 use Rattle.limits.specs.declared.FarmCosts.{FarmCosts}
 use Rattle.limits.specs.Model.{between}
 use Rattle.walk.specs.declared.Job.{Job}
 use Rattle.walk.specs.Model.{greatest, finish_of}
-use Rattle.answers.specs.declared.ComputeCost.{ComputeCost}
-use Rattle.answers.specs.declared.ComputeCost.TheVariants.{Absent, Given}
 use Rattle.answers.specs.declared.Offer.{Offer}
 use Rattle.answers.specs.declared.Question.{Question}
-use Rattle.answers.specs.declared.Answer.{Answer}
+use Rattle.answers.specs.declared.Granted.{Granted}
 use Rattle.answers.specs.declared.Question.TheVariants as question
-use Rattle.answers.specs.declared.Answer.TheVariants as answer
+use Rattle.answers.specs.declared.Granted.TheVariants as answer
 
 -- ---- Answers
 
@@ -51,16 +49,20 @@ number_of question.Lines = 10
 number_of question.Farm = 11
 number_of question.Waiting = 12
 
+-- the paper's word and values for each case of a granted call's answer
+abbrev pub told : Granted → Said
+told (answer.Open n s) = granted Open (n ∷ s ∷ [])
+told (answer.Yes j s t k) = granted Yes (j ∷ s ∷ t ∷ k ∷ [])
+told (answer.Clock t n) = granted Clock (t ∷ n ∷ [])
+told (answer.Shown n) = granted Shown (n ∷ [])
+told (answer.Account s h c) = granted Account (s ∷ h ∷ c ∷ [])
+told (answer.Gone j) = granted Gone (j ∷ [])
+told (answer.Quote j s t k) = granted Quote (j ∷ s ∷ t ∷ k ∷ [])
+
 -- the paper's word, number and values for each case of an answer
-abbrev pub said : Answer → Said
-said (answer.Open n s) = granted Open (n ∷ s ∷ [])
-said (answer.Yes j s t k) = granted Yes (j ∷ s ∷ t ∷ k ∷ [])
-said (answer.Clock t n) = granted Clock (t ∷ n ∷ [])
-said (answer.Shown n) = granted Shown (n ∷ [])
-said (answer.Account s h c) = granted Account (s ∷ h ∷ c ∷ [])
-said (answer.Gone j) = granted Gone (j ∷ [])
-said (answer.Quote j s t k) = granted Quote (j ∷ s ∷ t ∷ k ∷ [])
-said (answer.No q) = refused (number_of q)
+abbrev pub said : Result Granted Question → Said
+said (Ok g) = told g
+said (Err q) = refused (number_of q)
 
 -- job, start, finish and count of nodes
 abbrev pub yes_of : FarmCosts → Job → Said
@@ -70,15 +72,15 @@ yes_of c j = granted Yes (j.number ∷ j.booking.start ∷ finish_of c j ∷ j.b
 
 -- an offer that gives no compute cost, and one that does
 abbrev pub offer_of : ℕ → ℕ → ℕ → Offer
-offer_of s z d = record { show = s; size = z; deadline = d; compute = Absent }
+offer_of s z d = record { show = s; size = z; deadline = d; compute = None }
 
 abbrev pub offer_with : ℕ → ℕ → ℕ → ℕ → Offer
-offer_with s z d p = record { show = s; size = z; deadline = d; compute = Given p }
+offer_with s z d p = record { show = s; size = z; deadline = d; compute = Some p }
 
 -- the compute cost that is given, otherwise the farm's
-abbrev pub compute_or : ℕ → ComputeCost → ℕ
-compute_or farms Absent = farms
-compute_or farms (Given own) = own
+abbrev pub compute_or : ℕ → Option ℕ → ℕ
+compute_or farms None = farms
+compute_or farms (Some own) = own
 
 -- questions 4, 5, 2, 6 and 7 in that order, of an offer whose job would have the compute cost p, by a farm's shows, clock, waiting jobs and used numbers: the number
 -- of the first answered no, or 0

@@ -1,18 +1,19 @@
 -- Questions and what `ask` says of them.
-use Rattle.std.specs.Prelude.{◌≡◌, refl, true, false, ◌&&◌, ℕ, leb, ltb, eqb}
+use Rattle.std.specs.Prelude.{◌≡◌, refl, true, false, ◌&&◌, ℕ, ◌≤◌, leb, ltb, eqb, length, ⊤, Result, Ok, Err}
+use Rattle.std.proofs.Common.{arith}
 use Rattle.limits.specs.Model.{between}
 use Rattle.walk.specs.Model.{greatest}
 use Rattle.answers.specs.declared.Offer.{Offer}
+use Rattle.answers.specs.declared.Granted.{Granted}
+use Rattle.answers.specs.declared.Granted.TheVariants as answer
 use Rattle.answers.specs.declared.Question.{Question}
 use Rattle.answers.specs.declared.Question.TheVariants as question
-use Rattle.answers.specs.declared.Asked.{Asked}
-use Rattle.answers.specs.declared.Asked.TheVariants as asked
-use Rattle.answers.specs.Model.{number_of, asks_offer}
+use Rattle.answers.specs.Model.{said, number_of, asks_offer}
 
 -- the number of the question that was answered no, 0 where none was
-abbrev pub asked_of : Asked → ℕ
-asked_of asked.Yes = 0
-asked_of (asked.No q) = number_of q
+abbrev pub asked_of : Result ⊤ Question → ℕ
+asked_of (Ok _) = 0
+asked_of (Err q) = number_of q
 
 -- No question has the number 0, which stands for a granted call.
 pub no_number : (q : Question) → eqb (number_of q) 0 ≡ false
@@ -28,6 +29,17 @@ no_number question.Time = refl
 no_number question.Lines = refl
 no_number question.Farm = refl
 no_number question.Waiting = refl
+
+-- An answer has at most eight values.
+pub few_values : (a : Result Granted Question) → length (said a).values ≤ 8
+few_values (Ok (answer.Open n s)) = omega arith
+few_values (Ok (answer.Yes j s t k)) = omega arith
+few_values (Ok (answer.Clock t n)) = omega arith
+few_values (Ok (answer.Shown n)) = omega arith
+few_values (Ok (answer.Account s h c)) = omega arith
+few_values (Ok (answer.Gone j)) = omega arith
+few_values (Ok (answer.Quote j s t k)) = omega arith
+few_values (Err q) = omega arith
 
 -- ---- What an offer is asked
 

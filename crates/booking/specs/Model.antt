@@ -1,6 +1,6 @@
 -- One job's booking, in the words and the order of document 01, "The deadline walk", steps 1 to 5.
 -- Everything here is a definition; nothing is assumed.
-use Rattle.std.specs.Prelude.{ℕ, suc, ◌+◌, ◌-◌, ◌*◌, ◌/◌, ◌%◌, ◌<◌, max, List, [], ◌∷◌, ◌++◌, map, cond, leb, length, take, replicate}
+use Rattle.std.specs.Prelude.{ℕ, suc, ◌+◌, ◌-◌, ◌*◌, ◌/◌, ◌%◌, ◌<◌, max, List, [], ◌∷◌, ◌++◌, map, cond, leb, length, take, replicate, Option, Some, None}
 use Rattle.shares.specs.Model.{capacity, greedy, earliest, answers}
 use Rattle.keys.specs.declared.Key.{Key}
 use Rattle.keys.specs.Model.{sort_keys}
@@ -48,6 +48,10 @@ search q k (x ∷ xs) =
     cond (leb q.size (capacity q.costs (suc k) (q.deadline - start_at q x)))
     (record { count = suc k; start = start_at q x })
     (search q (suc k) xs)
+
+-- what is found on these nodes, if anything: a count of 0 is none
+abbrev pub found_in : Request → List Key → Option Found
+found_in q ks = cond (leb 1 (search q 0 ks).count) (Some (search q 0 ks)) None
 
 -- ---- The booking
 

@@ -1,11 +1,10 @@
-// Runs the days that the file `days` names, one name a line, and prints each day's name and its answers. They go through
-// the same code as in farmday. The stored answers were compared with the second planner's.
+// Runs the days that the file `days` names, one name a line, and prints each day's name and its answers. They go
+// through the same code as in farmday. The stored answers were compared with the second planner's.
 #![tactic(auto)]
 
 ghost use Rattle.std.specs.Prelude.{◌≤◌, length};
 
 use arrayvec::ArrayString;
-use search::find;
 use std::fmt::Write;
 use std::fs::File;
 use std::io::Read;
@@ -40,11 +39,8 @@ fn run_day<R: Files + Print + Eprint>(rt: &R, name: &[u8]) -> io::Result<()> {
 
 // Each name of the list.
 fn run_all<R: Files + Print + Eprint>(rt: &R, names: &[u8]) -> io::Result<()> {
-    let mut next = 0;
-    while next < names.len() {
-        let end = find(names, next, b'\n');
-        run_day(rt, &names[next..end])?;
-        next = end + 1;
+    for name in names.split_inclusive(|&b| b == b'\n') {
+        run_day(rt, name.strip_suffix(b"\n").unwrap_or(name))?;
     }
     Ok(())
 }
@@ -54,11 +50,7 @@ fn read_full<R: Read>(input: &mut R, buf: &mut [u8]) -> usize
     ensures { result ≤ length buf.new }
 {
     let mut done = 0;
-    while done < buf.len() {
-        let count = input.read(&mut buf[done..]).unwrap_or(0);
-        if count == 0 {
-            break;
-        }
+    while let Ok(count @ 1..) = input.read(&mut buf[done..]) {
         done += count;
     }
     done

@@ -1,10 +1,8 @@
 -- What no call changes, and what follows where no offer gives a compute cost.
-use Rattle.std.specs.Prelude.{◌≡◌, refl, List, [], ◌∷◌}
+use Rattle.std.specs.Prelude.{◌≡◌, refl, List, [], ◌∷◌, ℕ, Option, None}
 use Rattle.std.proofs.Common.{ap, sym, subst, ◌∙◌}
 use Rattle.lists.specs.Laws.{All, all_join}
 use Rattle.limits.specs.declared.FarmCosts.{FarmCosts}
-use Rattle.answers.specs.declared.ComputeCost.{ComputeCost}
-use Rattle.answers.specs.declared.ComputeCost.TheVariants.{Absent}
 use Rattle.answers.specs.declared.Offer.{Offer}
 use Rattle.planner.specs.Model.{Farm, costs_for, default_costs}
 use Rattle.planner.specs.Changes.{at_time, Keeps, keeps_same, keeps_then, jobs_keep, time_keeps}
@@ -33,7 +31,7 @@ run_keeps w (c ∷ cs) = keeps_then (handed_keeps w.farm c) (run_keeps (note w c
 
 -- the call is no offer that gives a compute cost
 abbrev pub GivesNone : Call → Type 0
-GivesNone c = (o : Offer) → c ≡ offer o → o.compute ≡ Absent
+GivesNone c = (o : Offer) → c ≡ offer o → o.compute ≡ None
 
 -- the costs that a job was accepted with are those that the farm's compute cost gives
 abbrev At : FarmCosts → Accepted → Type 0
@@ -49,7 +47,7 @@ call_at f c none = go (outcome f c)
     go (stays h n) = noting_all nothing n tt
     go (takes o e k h n) =
         noting_all (accepting (taken f o) (planned f o)) n
-        (ap (λ (x : ComputeCost). costs_for f.costs (compute_or f.costs.compute x)) (none o e), tt)
+        (ap (λ (x : Option ℕ). costs_for f.costs (compute_or f.costs.compute x)) (none o e), tt)
     go (leaves i k h n) = noting_all (withdrawing i) n tt
     go (moves t i k h n) = noting_all (moving t (issued f t)) n tt
 

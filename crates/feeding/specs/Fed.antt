@@ -1,64 +1,82 @@
 -- What a block leaves of a day: the farm and the pending line are those of feeding all of it, however often its answers
 -- were written on the way.
-use Rattle.std.specs.Prelude.{◌≡◌, refl, List, [], true, false, ℕ, ◌+◌, ◌-◌, ◌≤◌, ◌<◌, length, take, drop}
+use Rattle.std.specs.Prelude.{◌≡◌, refl, List, [], ℕ, Result, Ok, Err, IsOk, IsErr, ◌+◌, ◌-◌, ◌≤◌, ◌<◌, length, take, drop}
 use Rattle.std.proofs.Common.{ap, ap₂, sym, subst, ◌∙◌, zero-le, arith, take_all}
 use Rattle.std.proofs.Math.Nat.{sub-zero}
 use Rattle.std.proofs.Math.Decide.{dec_le}
-use Rattle.planner.specs.Model.{Farm, farm_of}
+use Rattle.std.proofs.lemmas.Bool.{false≢true}
+use Rattle.std.specs.Result.{MatchResult}
+use Rattle.planner.specs.Model.{Farm}
 use Rattle.protocol.specs.declared.Session.{Session}
 use Rattle.protocol.specs.declared.Progress.{Progress}
 use Rattle.lines.specs.Model.{Pending, Fed, behind, feed}
 use Rattle.lines.specs.Feeding.{feed_append, stretch, stretch_join}
 use Rattle.lines.specs.Rows.{pending_of}
 use Rattle.lines.specs.AnswerLines.{largest}
-use Rattle.protocol.specs.Promises.{Took}
+use Rattle.protocol.specs.Promises.{day_farm, Took}
 use Rattle.protocol.specs.Reachable.{Reachable, feed_reachable}
-use Rattle.feeding.specs.declared.Sent.{Sent}
 
--- the day t with these rows of cells is what feeding these bytes to a farm and a pending line comes to
-pub record Leaves (f : Farm) (p : Pending) (bytes : List ℕ) (t : Session) (ks xs : List ℕ) : Type 0 where
-  pub farm : farm_of t.figures ks xs ≡ (feed f p bytes).farm
+-- the day t is what feeding these bytes to a farm and a pending line comes to
+pub record Leaves (f : Farm) (p : Pending) (bytes : List ℕ) (t : Session) : Type 0 where
+  pub farm : day_farm t ≡ (feed f p bytes).farm
   pub pending : pending_of t.rest ≡ (feed f p bytes).pending
 
 -- A farm that was reachable still is.
-pub leaves_reachable : (f : Farm) (p : Pending) (bytes : List ℕ) (t : Session) (ks xs : List ℕ) → Leaves f p bytes t ks xs → Reachable f → Reachable (farm_of t.figures ks xs)
-leaves_reachable f p bytes t ks xs x r = subst Reachable (sym x.farm) (feed_reachable f p bytes r)
+pub leaves_reachable : (f : Farm) (p : Pending) (bytes : List ℕ) (t : Session) → Leaves f p bytes t → Reachable f → Reachable (day_farm t)
+leaves_reachable f p bytes t x r = subst Reachable (sym x.farm) (feed_reachable f p bytes r)
 
--- what comes of a block, so much room being lent for answers
-pub record Answers (f : Farm) (p : Pending) (block : List ℕ) (room : ℕ) (r : Sent) (ks xs : List ℕ) : Type 0 where
-  -- the day is that of feeding the block up to a place,
-  pub day : Leaves f p (stretch 0 r.next block) r.session ks xs
-  -- which is its end where all answers could be written,
-  pub all : r.ok ≡ true → length block ≤ r.next
-  -- and otherwise not its start, where an answer has room: it gives up only behind answers that it handed on
-  pub some : r.ok ≡ false → largest ≤ room → 0 < r.next
+-- a place of the block up to which it was fed: not its start, where an answer has room
+pub record GivenUp (f : Farm) (p : Pending) (block : List ℕ) (room : ℕ) (t : Session) : Type 0 where
+  pub next : ℕ
+  pub day : Leaves f p (stretch 0 next block) t
+  pub some : largest ≤ room → 0 < next
+
+-- what comes of a block, so much room being lent for answers: where all answers could be written the day is that of
+-- feeding it, and otherwise that of feeding it up to a place: it gives up only behind answers that it handed on
+abbrev pub Answers : {E : Type 0} → Farm → Pending → List ℕ → ℕ → Result Unit E → Session → Type 0
+Answers f p block room r t = MatchResult r (λ _. Leaves f p block t) (λ _. GivenUp f p block room t)
+
+-- It is given up with an error.
+pub given_up : {E : Type 0} (f : Farm) (p : Pending) (block : List ℕ) (room : ℕ) (r : Result Unit E) (t : Session) → IsErr r → GivenUp f p block room t → Answers f p block room r t
+given_up f p block room (Ok u) t e x = absurd (false≢true e)
+given_up f p block room (Err q) t e x = x
+
+-- Either way a farm that was reachable still is.
+pub answers_reachable : {E : Type 0} (f : Farm) (p : Pending) (block : List ℕ) (room : ℕ) (r : Result Unit E) (t : Session) → Answers f p block room r t → Reachable f → Reachable (day_farm t)
+answers_reachable f p block room (Ok u) t x h = leaves_reachable f p block t x h
+answers_reachable f p block room (Err q) t x h = leaves_reachable f p (stretch 0 x.next block) t x.day h
 
 -- Nothing has been fed yet.
-pub fed_start : (s : Session) (ks xs block : List ℕ) → Leaves (farm_of s.figures ks xs) (pending_of s.rest) (stretch 0 0 block) s ks xs
+pub fed_start : (s : Session) (block : List ℕ) → Leaves (day_farm s) (pending_of s.rest) (stretch 0 0 block) s
 unfolding feed
-fed_start s ks xs block = record { farm = refl; pending = refl }
+fed_start s block = record { farm = refl; pending = refl }
 
 -- Some more of the block is fed.
-pub fed_more : (f : Farm) (p : Pending) (block : List ℕ) (t : Session) (ks xs : List ℕ) (i : ℕ) (entry exit : List ℕ) (r : Progress) (ks' xs' : List ℕ) → Leaves f p (stretch 0 i block) t ks xs
-    → Took (farm_of t.figures ks xs) (pending_of t.rest) block i entry exit r ks' xs' → Leaves f p (stretch 0 r.next block) r.session ks' xs'
-fed_more f p block t ks xs i entry exit r ks' xs' x k =
+pub fed_more : (f : Farm) (p : Pending) (block : List ℕ) (s : Session) (i : ℕ) (entry exit : List ℕ) (r : Progress) (t : Session) → Leaves f p (stretch 0 i block) s
+    → Took (day_farm s) (pending_of s.rest) block i entry exit r t → Leaves f p (stretch 0 r.next block) t
+fed_more f p block s i entry exit r t x k =
     let bs = stretch 0 i block in
     let cs = stretch i r.next block in
-    let whole : feed f p (stretch 0 r.next block) ≡ behind (feed f p bs).text (feed (farm_of t.figures ks xs) (pending_of t.rest) cs) =
+    let whole : feed f p (stretch 0 r.next block) ≡ behind (feed f p bs).text (feed (day_farm s) (pending_of s.rest) cs) =
     ap (feed f p) (sym (stretch_join 0 i r.next block zero-le k.onward))
     ∙ feed_append f p bs cs
     ∙ ap₂ (λ (g : Farm) (q : Pending). behind (feed f p bs).text (feed g q cs)) (sym x.farm) (sym x.pending) in
     record { farm = k.farm ∙ sym (ap (λ (z : Fed). z.farm) whole); pending = k.pending ∙ sym (ap (λ (z : Fed). z.pending) whole) }
 
+-- Up to its end all of it is fed.
+pub fed_all : (f : Farm) (p : Pending) (block : List ℕ) (i : ℕ) (t : Session) → Leaves f p (stretch 0 i block) t → length block ≤ i → Leaves f p block t
+fed_all f p block i t x h =
+    subst (λ (l : List ℕ). Leaves f p l t) (ap (λ (n : ℕ). take n block) (sub-zero i) ∙ take_all i block h) x
+
 -- A block whose answers could all be written leaves the day of feeding all of it.
-pub answers_all : (f : Farm) (p : Pending) (block : List ℕ) (room : ℕ) (r : Sent) (ks xs : List ℕ) → Answers f p block room r ks xs → r.ok ≡ true → Leaves f p block r.session ks xs
-answers_all f p block room r ks xs x e =
-    subst (λ (l : List ℕ). Leaves f p l r.session ks xs) (ap (λ (n : ℕ). take n block) (sub-zero r.next) ∙ take_all r.next block (x.all e)) x.day
+pub answers_all : {E : Type 0} (f : Farm) (p : Pending) (block : List ℕ) (room : ℕ) (r : Result Unit E) (t : Session) → Answers f p block room r t → IsOk r → Leaves f p block t
+answers_all f p block room (Ok u) t x e = x
+answers_all f p block room (Err u) t x e = absurd (false≢true e)
 
 -- Where an answer has room, some bytes are taken.
-pub took_some : (f : Farm) (p : Pending) (block : List ℕ) (i : ℕ) (entry exit : List ℕ) (r : Progress) (ks xs : List ℕ) → Took f p block i entry exit r ks xs → i < length block → largest ≤ length entry → i < r.next
+pub took_some : (f : Farm) (p : Pending) (block : List ℕ) (i : ℕ) (entry exit : List ℕ) (r : Progress) (t : Session) → Took f p block i entry exit r t → i < length block → largest ≤ length entry → i < r.next
 unfolding feed
-took_some f p block i entry exit r ks xs k h room = elim (dec_le r.next i) [ no d ↦ omega arith | yes d ↦ absurd (none d) ]
+took_some f p block i entry exit r t k h room = elim (dec_le r.next i) [ no d ↦ omega arith | yes d ↦ absurd (none d) ]
   where
     none : r.next ≤ i → ⊥
     none d =
@@ -67,3 +85,12 @@ took_some f p block i entry exit r ks xs k h room = elim (dec_le r.next i) [ no 
         let empty : stretch i r.next block ≡ [] = ap (λ (n : ℕ). stretch i n block) same ∙ ap (λ (n : ℕ). take n (drop i block)) zero-apart in
         let nothing : r.written ≡ 0 = k.wrote.wrote.place ∙ ap (λ (bs : List ℕ). 0 + length (feed f p bs).text) empty in
         omega (arith, k.stops (omega arith), nothing)
+
+-- So it may be given up there.
+pub took_given : (f : Farm) (p : Pending) (block : List ℕ) (s : Session) (i : ℕ) (entry exit : List ℕ) (r : Progress) (t : Session) (room : ℕ) → Leaves f p (stretch 0 i block) s
+    → Took (day_farm s) (pending_of s.rest) block i entry exit r t → i < length block → room ≡ length entry → GivenUp f p block room t
+took_given f p block s i entry exit r t room x k h e = record {
+  next = r.next;
+  day = fed_more f p block s i entry exit r t x k;
+  some = λ g. let on = took_some (day_farm s) (pending_of s.rest) block i entry exit r t k h (omega (arith, e, g)) in omega arith;
+}

@@ -3,169 +3,88 @@
 #![tactic(auto)]
 
 ghost use Rattle.std.specs.Prelude.{length};
-ghost use Rattle.planner.specs.Model.{farm_of};
-ghost use Rattle.planner.specs.Parts.{CellsSized};
 ghost use Rattle.lines.specs.Rows.{pending_of};
+ghost use Rattle.protocol.specs.Promises.{day_farm};
 ghost use Rattle.protocol.specs.Reachable.{Reachable};
 ghost use Rattle.feeding.specs.Fed.{Answers};
 
 use protocol::Session;
-use std::io::{Read, Write};
+use std::fmt;
+use std::io::{self, ErrorKind, Read, Write};
 
-// A day so far, the place in the block up to which it was fed, and whether its answers could be written.
+// What ends a day early.
 #[derive(Clone, Copy)]
-pub struct Sent {
-    pub session: Session,
-    pub next: usize,
-    pub ok: bool,
+enum Failure {
+    Unread,
+    Unwritten,
 }
 
-// Hands answers on, whole and at once, and says whether the output took them.
-fn hand_on<W: Write>(output: &mut W, answers: &[u8]) -> bool {
-    output.write_all(answers).is_ok() && output.flush().is_ok()
+impl fmt::Display for Failure {
+    fn fmt<W: fmt::Write>(&self, f: &mut fmt::Formatter<W>) -> fmt::Result {
+        f.write_str(match self {
+            Failure::Unread => "the input could not be read",
+            Failure::Unwritten => "the answers could not be written",
+        })
+    }
+}
+
+// Hands answers on, whole and at once.
+fn hand_on<W: Write>(output: &mut W, answers: &[u8]) -> io::Result<()> {
+    output.write_all(answers)?;
+    output.flush()
 }
 
 // Answers a block. The answers are handed to the output at its end, and before it where `out` is full. It gives up only
-// behind answers that could not be written.
+// behind answers that could not be written, or where `out` has no room for an answer.
 fn answer_all<W: Write>(
     output: &mut W,
-    session: Session,
+    day: &mut Session,
     block: &[u8],
-    rows: &mut [[u64; 8]; 1024],
-    nodes: &mut [u8; 8192],
-    shares: &mut [u32; 8192],
-    plan_nodes: &mut [u8; 8192],
-    plan_shares: &mut [u32; 8192],
     out: &mut [u8],
-) -> Sent
-    requires { CellsSized nodes.old shares.old × CellsSized plan_nodes.old plan_shares.old × Reachable (farm_of session.figures nodes.old shares.old) }
-    ensures { Answers (farm_of session.figures nodes.old shares.old) (pending_of session.rest) block.now (length out.old) result nodes.new shares.new × CellsSized nodes.new shares.new × CellsSized plan_nodes.new plan_shares.new }
+) -> io::Result<()>
+    requires { Reachable (day_farm day.old) }
+    ensures { Answers (day_farm day.old) (pending_of day.old.rest) block.now (length out.old) result day.new }
 {
-    let mut day = session;
     let mut next = 0;
-    let mut turns = u64::MAX;
     while next < block.len() {
-        if turns == 0 {
-            return Sent {
-                session: day,
-                next,
-                ok: false,
-            };
+        let done = day.answer_block(block, next, out);
+        hand_on(output, &out[..done.written])?;
+        if done.next == next {
+            return Err(ErrorKind::WriteZero.into());
         }
-        turns -= 1;
-        let done = protocol::answer_block(
-            day,
-            block,
-            next,
-            rows,
-            nodes,
-            shares,
-            plan_nodes,
-            plan_shares,
-            out,
-        );
-        let written = done.written;
-        day = done.session;
         next = done.next;
-        if !hand_on(output, &out[0..written]) {
-            return Sent {
-                session: day,
-                next,
-                ok: false,
-            };
-        }
     }
-    Sent {
-        session: day,
-        next,
-        ok: true,
-    }
-}
-
-fn tell_unread(rt: &impl Eprint) {
-    let _ = eprintln!(rt; "the input could not be read");
-}
-
-fn tell_unwritten(rt: &impl Eprint) {
-    let _ = eprintln!(rt; "the answers could not be written");
+    Ok(())
 }
 
 // The end of the input: a last line may lack its newline.
-fn end<W: Write>(
-    rt: &impl Eprint,
-    output: &mut W,
-    session: Session,
-    rows: &mut [[u64; 8]; 1024],
-    nodes: &mut [u8; 8192],
-    shares: &mut [u32; 8192],
-    plan_nodes: &mut [u8; 8192],
-    plan_shares: &mut [u32; 8192],
-    out: &mut [u8],
-)
-    requires { CellsSized nodes.old shares.old × CellsSized plan_nodes.old plan_shares.old × Reachable (farm_of session.figures nodes.old shares.old) }
+fn end<W: Write>(output: &mut W, day: &mut Session, out: &mut [u8]) -> io::Result<()>
+    requires { Reachable (day_farm day.old) }
 {
-    let written = protocol::end_of_input(
-        session,
-        rows,
-        nodes,
-        shares,
-        plan_nodes,
-        plan_shares,
-        out,
-    );
-    if !hand_on(output, &out[0..written]) {
-        tell_unwritten(rt);
-    }
+    let written = day.end_of_input(out);
+    hand_on(output, &out[..written])
 }
 
 // A day from `input` to `output`. One read a turn, so that lines that come one by one are answered as they come. The
-// turns are counted down from a number that no run uses up, since a proved loop has to end. The timetable's records and
-// the cells of the farm and of a plan are made once, and lent to every block.
-pub fn answer_stream<R: Read, W: Write>(rt: &impl Eprint, input: &mut R, output: &mut W) {
+// turns are counted up to a number that no run uses up, since a proved loop has to end. The day is made once, with the
+// memory for its answers, and lent to every block.
+fn answer_day<R: Read, W: Write>(input: &mut R, output: &mut W) -> Result<(), Failure> {
     let mut block = [0u8; 65536];
     let mut out = [0u8; 262144];
-    let mut rows = [[0u64; 8]; 1024];
-    let mut nodes = [0u8; 8192];
-    let mut shares = [0u32; 8192];
-    let mut plan_nodes = [0u8; 8192];
-    let mut plan_shares = [0u32; 8192];
     let mut day = protocol::start();
-    let mut turns = u64::MAX;
-    while turns > 0 {
-        turns -= 1;
-        let Ok(count) = input.read(&mut block) else {
-            tell_unread(rt);
-            return;
-        };
+    for _ in 0..u64::MAX {
+        let count = input.read(&mut block).map_err(|_| Failure::Unread)?;
         if count == 0 {
-            end(
-                rt,
-                output,
-                day,
-                &mut rows,
-                &mut nodes,
-                &mut shares,
-                &mut plan_nodes,
-                &mut plan_shares,
-                &mut out,
-            );
-            return;
+            return end(output, &mut day, &mut out).map_err(|_| Failure::Unwritten);
         }
-        let sent = answer_all(
-            output,
-            day,
-            &block[0..count],
-            &mut rows,
-            &mut nodes,
-            &mut shares,
-            &mut plan_nodes,
-            &mut plan_shares,
-            &mut out,
-        );
-        if !sent.ok {
-            tell_unwritten(rt);
-            return;
-        }
-        day = sent.session;
+        answer_all(output, &mut day, &block[..count], &mut out).map_err(|_| Failure::Unwritten)?;
+    }
+    Ok(())
+}
+
+// The same; what ended it early is told in a line on standard error.
+pub fn answer_stream<R: Read, W: Write>(rt: &impl Eprint, input: &mut R, output: &mut W) {
+    if let Err(failure) = answer_day(input, output) {
+        let _ = eprintln!(rt; "{failure}");
     }
 }

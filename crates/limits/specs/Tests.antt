@@ -1,8 +1,8 @@
--- The tests that the code puts together, and what each turn of their loop keeps.
-use Rattle.std.specs.Prelude.{ℕ, zero, suc, min, ◌+◌, ◌≤◌, ◌<◌, ◌≡◌, refl, List, [], ◌∷◌, Bool, true, false, ◌&&◌, leb, length, get_or, take}
-use Rattle.std.proofs.Common.{sym, ap, ◌∙◌, add-one, arith, leb-true, leb-false, le-leb, take_all}
-use Rattle.std.proofs.lemmas.Bool.{lt-leb}
-use Rattle.std.proofs.Math.Seq.{slice, slice-cons, slice_empty, take-length}
+-- The tests that the code puts together.
+use Rattle.std.specs.Prelude.{ℕ, zero, suc, min, ◌≤◌, ◌≡◌, refl, List, [], ◌∷◌, Bool, true, false, ◌&&◌, leb, length, get_or, take}
+use Rattle.std.proofs.Common.{ap, arith, leb-true}
+use Rattle.std.proofs.lemmas.List.{take_min}
+use Rattle.std.specs.List.{list_all}
 use Rattle.limits.specs.Model.{all_at_most}
 
 -- ---- Conjunctions
@@ -19,28 +19,13 @@ both e f = rw (e, f)
 
 -- A front is the front that there is.
 pub take_least : {A : Type 0} (n : ℕ) (xs : List A) → take (min n (length xs)) xs ≡ take n xs
-take_least {A} n xs = go (leb n (length xs)) refl
-  where
-    go : (b : Bool) → leb n (length xs) ≡ b → take (min n (length xs)) xs ≡ take n xs
-    go true e = let m : min n (length xs) ≡ n = omega (arith, leb-true n (length xs) e) in ap (λ (k : ℕ). take k xs) m
-    go false e =
-        let m : min n (length xs) ≡ length xs = omega (arith, leb-false n (length xs) e) in
-        ap (λ (k : ℕ). take k xs) m ∙ take-length xs ∙ sym (take_all n xs (omega (arith, leb-false n (length xs) e)))
+take_least n xs = take_min n xs
 
-module _ (b : ℕ) (xs : List ℕ) (i n : ℕ) (h : i < n) (k : n ≤ length xs) where
-  at_most_cons : all_at_most b (slice i n xs) ≡ leb (get_or xs i 0) b && all_at_most b (slice (i + 1) n xs)
-  unfolding all_at_most
-  at_most_cons = rw (add-one, slice-cons i n xs 0 h k)
-
-  pub at_most_more : get_or xs i 0 ≤ b → all_at_most b (slice i n xs) ≡ all_at_most b (slice (i + 1) n xs)
-  at_most_more l = at_most_cons ∙ rw (le-leb (get_or xs i 0) b l)
-
-  pub at_most_stop : b < get_or xs i 0 → all_at_most b (slice i n xs) ≡ false
-  at_most_stop l = at_most_cons ∙ rw (lt-leb (get_or xs i 0) b l)
-
-pub at_most_none : (b : ℕ) (xs : List ℕ) (n : ℕ) → all_at_most b (slice n n xs) ≡ true
+-- A list passes if each of its numbers does, as the code asks it.
+pub at_most_each : (b : ℕ) (xs : List ℕ) → list_all (λ (x : ℕ). leb x b) xs ≡ all_at_most b xs
 unfolding all_at_most
-at_most_none b xs n = rw (slice_empty n xs)
+at_most_each b [] = refl
+at_most_each b (x ∷ xs) = ap (λ (r : Bool). leb x b && r) (at_most_each b xs)
 
 -- Every number of a list that is at most b, also past its end.
 pub at_most_at : (b : ℕ) (xs : List ℕ) (i : ℕ) → all_at_most b xs ≡ true → get_or xs i 0 ≤ b

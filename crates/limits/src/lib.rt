@@ -3,9 +3,7 @@
 #![tactic(auto)]
 
 ghost use Rattle.std.specs.Prelude.{◌&&◌, ◌≡◌, leb, ltb, take};
-ghost use Rattle.limits.specs.Model.{greatest, between, all_at_most, costs_within};
-
-use numbers::smaller_size;
+ghost use Rattle.limits.specs.Model.{greatest, all_at_most, costs_within};
 
 // The greatest tick, allowance and count of job numbers.
 pub const GREATEST: u64 = 1_000_000_000_000;
@@ -24,73 +22,36 @@ pub struct FarmCosts {
     pub returning: u64,
 }
 
-pub fn and(a: bool, b: bool) -> bool
-    ensures { result ≡ (a && b) }
-{
-    if a {
-        return b;
-    }
-    false
-}
-
-pub fn at_most(x: u64, limit: u64) -> bool
-    ensures { result ≡ leb x limit }
-{
-    x <= limit
-}
-
-pub fn between(low: u64, x: u64, high: u64) -> bool
-    ensures { result ≡ between low x high }
-{
-    and(at_most(low, x), at_most(x, high))
-}
-
-// Whether the first `count` numbers are at most `limit`; a count above the length is taken for the length.
+// Whether the first `count` numbers are at most `limit`; a count above the length is taken for the length. The count
+// and not a slice, since it answers for any count: question 11 asks it of counts not yet looked at.
 pub fn all_at_most(xs: &[u64], count: usize, limit: u64) -> bool
     ensures { result ≡ all_at_most limit (take count xs.now) }
 {
-    let n = smaller_size(count, xs.len());
-    let mut i = 0;
-    while i < n {
-        if limit < xs[i] {
-            return false;
-        }
-        i += 1;
-    }
-    true
+    xs.iter().take(count).all(|&x| x <= limit)
 }
 
 // Whether all five costs are within the table.
+#[tactic(auto, unfolding(crate::specs::Model::costs_within))]
 pub fn costs_within(costs: FarmCosts) -> bool
     ensures { result ≡ costs_within costs }
 {
-    let units = and(
-        between(1, costs.send, 10_000),
-        between(1, costs.compute, 1_000_000),
-    );
-    let with_setups = and(
-        and(units, at_most(costs.linksetup, 1_000_000)),
-        at_most(costs.nodesetup, 1_000_000),
-    );
-    and(with_setups, at_most(costs.returning, 10_000))
+    (1..=10_000).contains(&costs.send)
+        && (1..=1_000_000).contains(&costs.compute)
+        && costs.linksetup <= 1_000_000
+        && costs.nodesetup <= 1_000_000
+        && costs.returning <= 10_000
 }
 
 // Whether a deadline is after the clock and within the time range.
 pub fn deadline_within(clock: u64, deadline: u64) -> bool
     ensures { result ≡ (ltb clock deadline && leb deadline greatest) }
 {
-    if deadline <= clock {
-        return false;
-    }
-    deadline <= GREATEST
+    clock < deadline && deadline <= GREATEST
 }
 
 // Whether fewer than 128 jobs wait and a job number is left.
 pub fn place_left(waiting: usize, used: u64) -> bool
     ensures { result ≡ (ltb waiting 128 && ltb used greatest) }
 {
-    if 128 <= waiting {
-        return false;
-    }
-    used < GREATEST
+    waiting < 128 && used < GREATEST
 }

@@ -1,13 +1,11 @@
 -- Lines and answers, in the words and the order of document 01, "Timetable lines and the program". A line is given without its newline.
 -- Everything here is a definition; nothing is assumed. What a line's fields are is in the crate reading, how an answer is spelt in the crate printing.
-use Rattle.std.specs.Prelude.{ℕ, List, [], ◌∷◌, ◌++◌, Bool, false, cond, not, leb, ltb, eqb, length, get_or, drop, replicate}
+use Rattle.std.specs.Prelude.{ℕ, List, [], ◌∷◌, ◌++◌, Bool, false, cond, not, leb, ltb, eqb, length, get_or, drop, replicate, Option, None, Some}
 use Rattle.limits.specs.declared.FarmCosts.{FarmCosts}
 use Rattle.walk.specs.declared.Chunk.{Chunk}
 use Rattle.walk.specs.Model.{no_chunk}
 use Rattle.timetable.specs.Model.{chunk_row}
 use Rattle.planner.specs.Model.{Farm}
-use Rattle.answers.specs.declared.ComputeCost.{ComputeCost}
-use Rattle.answers.specs.declared.ComputeCost.TheVariants.{Absent, Given}
 use Rattle.answers.specs.declared.Offer.{Offer}
 use Rattle.planner.specs.Calls.{Said, refused, open_said, open_farm}
 use Rattle.planner.specs.Call.{Call, offer, quote, withdraw, move, account, reply, handed, noted}
@@ -59,8 +57,8 @@ abbrev pub allowances_of : List ℕ → List ℕ
 allowances_of ns = drop 6 ns
 
 -- `job` show size deadline [p]: of n numbers the fourth, where there is one, is the compute cost
-abbrev pub compute_in : ℕ → List ℕ → ComputeCost
-compute_in n ns = cond (leb n 3) Absent (Given (get_or ns 3 0))
+abbrev pub compute_in : ℕ → List ℕ → Option ℕ
+compute_in n ns = cond (leb n 3) None (Some (get_or ns 3 0))
 
 abbrev pub offer_in : ℕ → List ℕ → Offer
 offer_in n ns = record { show = get_or ns 0 0; size = get_or ns 1 0; deadline = get_or ns 2 0; compute = compute_in n ns }

@@ -1,5 +1,5 @@
 -- What the code makes of a row, for src/step.rt: an order, by the sort of call that the row asks for. It is answered what the row asks for.
-use Rattle.std.specs.Prelude.{◌≡◌, refl, List, Bool, true, false, not, ℕ, get_or, replicate}
+use Rattle.std.specs.Prelude.{◌≡◌, refl, List, Bool, true, false, not, ℕ, get_or, replicate, Option, None, Some}
 use Rattle.std.proofs.Common.{ap}
 use Rattle.std.proofs.lemmas.Bool.{false≢true}
 use Rattle.walk.specs.Model.{no_chunk}
@@ -25,31 +25,31 @@ abbrev pub query_call : Query → Call
 query_call (query.Quote o) = quote o
 query_call (query.Account s) = account s
 
--- what a row of a kind, by its n numbers, asks for
-abbrev pub order_of : Kind → ℕ → List ℕ → Order
-order_of kind.Farm n ns = order.Open
-order_of kind.Job n ns = order.Command (command.Offer (offer_in n ns))
-order_of kind.Clock n ns = order.Clock (get_or ns 0 0)
-order_of kind.Account n ns = order.Query (query.Account (get_or ns 0 0))
-order_of kind.Withdraw n ns = order.Command (command.Withdraw (get_or ns 0 0))
-order_of kind.Quote n ns = order.Query (query.Quote (offer_in n ns))
-order_of kind.Unreadable n ns = order.Unreadable
+-- what a row of a kind, by its n numbers, asks for, if that can be read
+abbrev pub order_of : Kind → ℕ → List ℕ → Option Order
+order_of kind.Farm n ns = Some order.Open
+order_of kind.Job n ns = Some (order.Command (command.Offer (offer_in n ns)))
+order_of kind.Clock n ns = Some (order.Clock (get_or ns 0 0))
+order_of kind.Account n ns = Some (order.Query (query.Account (get_or ns 0 0)))
+order_of kind.Withdraw n ns = Some (order.Command (command.Withdraw (get_or ns 0 0)))
+order_of kind.Quote n ns = Some (order.Query (query.Quote (offer_in n ns)))
+order_of kind.Unreadable n ns = None
 
 -- in its turn: an opening before an opened farm, a call after it
-abbrev pub order_turn : Order → Bool → Bool
-order_turn order.Open opened = not opened
-order_turn (order.Command c) opened = opened
-order_turn (order.Query q) opened = opened
-order_turn (order.Clock t) opened = opened
-order_turn order.Unreadable opened = false
+abbrev pub order_turn : Option Order → Bool → Bool
+order_turn (Some order.Open) opened = not opened
+order_turn (Some (order.Command c)) opened = opened
+order_turn (Some (order.Query q)) opened = opened
+order_turn (Some (order.Clock t)) opened = opened
+order_turn None opened = false
 
 -- what it is answered in its turn, by the numbers of the row and a farm's allowances
-abbrev pub order_answer : Farm → Order → List ℕ → List ℕ → Answered
-order_answer f order.Open ns al = opening_with ns al
-order_answer f (order.Command c) ns al = called f (command_call c)
-order_answer f (order.Query q) ns al = called f (query_call q)
-order_answer f (order.Clock t) ns al = called f (move t (replicate lent no_chunk))
-order_answer f order.Unreadable ns al = unread f
+abbrev pub order_answer : Farm → Option Order → List ℕ → List ℕ → Answered
+order_answer f (Some order.Open) ns al = opening_with ns al
+order_answer f (Some (order.Command c)) ns al = called f (command_call c)
+order_answer f (Some (order.Query q)) ns al = called f (query_call q)
+order_answer f (Some (order.Clock t)) ns al = called f (move t (replicate lent no_chunk))
+order_answer f None ns al = unread f
 
 -- A row is in its turn where its order is, and answered what its order is.
 pub order_is : (f : Farm) (k : Kind) (n : ℕ) (ns al : List ℕ) (o : Bool) → (in_turn (asked k) o ≡ order_turn (order_of k n ns) o) × (answer_to f (asked k) n ns al ≡ order_answer f (order_of k n ns) ns al)
@@ -61,15 +61,15 @@ order_is f kind.Withdraw n ns al o = (refl, refl)
 order_is f kind.Quote n ns al o = (refl, refl)
 order_is f kind.Unreadable n ns al o = (refl, refl)
 
-abbrev opens : Order → Bool
-opens order.Open = true
-opens (order.Command c) = false
-opens (order.Query q) = false
-opens (order.Clock t) = false
-opens order.Unreadable = false
+abbrev opens : Option Order → Bool
+opens (Some order.Open) = true
+opens (Some (order.Command c)) = false
+opens (Some (order.Query q)) = false
+opens (Some (order.Clock t)) = false
+opens None = false
 
 -- Only a `farm` line opens a farm.
-pub open_kind : (k : Kind) (n : ℕ) (ns : List ℕ) → order_of k n ns ≡ order.Open → k ≡ kind.Farm
+pub open_kind : (k : Kind) (n : ℕ) (ns : List ℕ) → order_of k n ns ≡ Some order.Open → k ≡ kind.Farm
 open_kind kind.Farm n ns e = refl
 open_kind kind.Job n ns e = absurd (false≢true (ap opens e))
 open_kind kind.Clock n ns e = absurd (false≢true (ap opens e))

@@ -2,8 +2,6 @@
 use Rattle.std.specs.Prelude.{◌≡◌, refl, List, [], ◌∷◌, ◌++◌, Bool, true, false, cond, ℕ, ◌+◌, ◌-◌, ◌≤◌, ◌<◌, leb, ltb, length, take}
 use Rattle.std.proofs.Common.{ap, sym, ◌∙◌, append-nil, append_assoc, arith, le-leb, leb-true, ltb-true, lt-ltb, length-append, length-take, length-take-le}
 use Rattle.std.proofs.lemmas.Bool.{lt-leb}
-use Rattle.std.proofs.Math.Seq.{paste}
-use Rattle.std.proofs.lemmas.List.Edits.{take-paste}
 use Rattle.planner.specs.Model.{Farm}
 use Rattle.reading.specs.declared.Kind.TheVariants as kind
 use Rattle.reading.specs.Model.{row_with, row_of}
@@ -82,12 +80,12 @@ module _ (r : Rest) (xs : List ℕ) (h : r.fill ≤ longest) (l : length r.bytes
   pub rest_over : (b : List ℕ) → longest - r.fill < length xs → pending_of (record { fill = 1025; bytes = b }) ≡ kept_all (pending_of r) xs
   rest_over b k = rw (le-leb r.fill longest h) (sym (kept_over (take r.fill r.bytes) xs (omega (arith, filled)) (omega (arith, filled))))
 
-  -- its bytes are put behind those that are there
-  pub rest_fits : (n : ℕ) → n ≤ length xs → r.fill + n ≤ longest
-      → pending_of (record { fill = r.fill + n; bytes = paste r.bytes r.fill xs n }) ≡ kept_all (pending_of r) (take n xs)
-  rest_fits n m k =
-      rw (le-leb r.fill longest h, le-leb (r.fill + n) longest k, take-paste r.bytes r.fill xs n (omega arith) m)
-      (sym (kept_fits (take r.fill r.bytes) (take n xs) (omega (arith, filled, length-take-le n xs m))))
+  -- its bytes stand behind those that are there
+  pub rest_fits : (b : List ℕ) → r.fill + length xs ≤ longest → take (r.fill + length xs) b ≡ take r.fill r.bytes ++ xs
+      → pending_of (record { fill = r.fill + length xs; bytes = b }) ≡ kept_all (pending_of r) xs
+  rest_fits b k e =
+      rw (le-leb r.fill longest h, le-leb (r.fill + length xs) longest k, e)
+      (sym (kept_fits (take r.fill r.bytes) xs (omega (arith, filled))))
 
 -- ---- A line of which nothing came before
 

@@ -27,6 +27,12 @@ use Rattle.lines.specs.Model.{refusal, answer_text, chunk_texts, allowances_of, 
 abbrev pub pending_of : Rest → Pending
 pending_of r = cond (leb r.fill longest) (part (take r.fill r.bytes)) long
 
+-- nothing of a line
+abbrev pub none_pending : Pending → Bool
+none_pending (part []) = true
+none_pending (part (b ∷ l)) = false
+none_pending long = false
+
 -- the row of a line that ends
 abbrev pub row_in : Pending → Row
 row_in (part l) = row_of l

@@ -1,70 +1,68 @@
 // What has come of a line that has not ended.
-ghost use Rattle.std.specs.Prelude.{◌≡◌, ◌+◌, ◌≤◌, length, drop};
-ghost use Rattle.std.proofs.Math.Seq.{paste};
-ghost use Rattle.lines.specs.Feeding.{kept_all, stretch};
-ghost use Rattle.lines.specs.Rows.{pending_of, row_in};
+ghost use Rattle.std.specs.Prelude.{◌≡◌, []};
+ghost use Rattle.lines.specs.Model.{part};
+ghost use Rattle.lines.specs.Feeding.{kept_all};
+ghost use Rattle.lines.specs.Rows.{pending_of, none_pending, row_in};
 
 use crate::Rest;
 use reading::{Row, read, unreadable};
 
-// The bytes with `count` of a block, from `from` on, at place `at`.
-fn copied(bytes: [u8; 1024], at: usize, block: &[u8], from: usize, count: usize) -> [u8; 1024]
-    requires { (at + count ≤ 1024) × (from + count ≤ length block.now) }
-    ensures { result ≡ paste bytes at (drop from block.now) count }
-{
-    let mut out = bytes;
-    let mut i = 0;
-    while i < count {
-        out[at + i] = block[from + i];
-        i += 1;
+impl Rest {
+    // Nothing of a line.
+    pub fn empty() -> Rest
+        ensures { pending_of result ≡ part [] }
+    {
+        Rest {
+            fill: 0,
+            bytes: [0; 1024],
+        }
     }
-    out
-}
 
-// With the bytes of a block from `from` up to `to`.
-pub fn with_bytes(rest: Rest, block: &[u8], from: usize, to: usize) -> Rest
-    requires { (from ≤ to) × (to ≤ length block.now) }
-    ensures { pending_of result ≡ kept_all (pending_of rest) (stretch from to block.now) }
-{
-    let fill = rest.fill;
-    let count = to - from;
-    if 1024 < fill {
-        return rest;
+    // Whether nothing has come of the line.
+    pub fn is_empty(&self) -> bool
+        ensures { result ≡ none_pending (pending_of self.now) }
+    {
+        self.fill == 0
     }
-    let bytes = rest.bytes;
-    if 1024 - fill < count {
-        return Rest { fill: 1025, bytes };
-    }
-    Rest {
-        fill: fill + count,
-        bytes: copied(bytes, fill, block, from, count),
-    }
-}
 
-// The row of a line that ends; one that is too long cannot be read.
-fn row_of(rest: Rest) -> Row
-    ensures { result ≡ row_in (pending_of rest) }
-{
-    let fill = rest.fill;
-    let bytes = rest.bytes;
-    if 1024 < fill {
-        return unreadable();
+    // The bytes that follow come too.
+    pub fn push(&mut self, more: &[u8])
+        ensures { pending_of self.new ≡ kept_all (pending_of self.old) more.now }
+    {
+        if 1024 < self.fill {
+            return;
+        }
+        if 1024 - self.fill < more.len() {
+            self.fill = 1025;
+            return;
+        }
+        let end = self.fill + more.len();
+        self.bytes[self.fill..end].copy_from_slice(more);
+        self.fill = end;
     }
-    read(&bytes[0..fill])
-}
 
-// The row of a line that ends at place `to` of a block: the first `fill` of these bytes came of it before, and the block's bytes from `from` on follow. Where none came before,
-// the line is read in the block, and no byte is copied.
-pub fn row_behind(fill: usize, bytes: &[u8; 1024], block: &[u8], from: usize, to: usize) -> Row
-    requires { (from ≤ to) × (to ≤ length block.now) }
-    ensures { result ≡ row_in (kept_all (pending_of (record { fill = fill; bytes = bytes.now })) (stretch from to block.now)) }
-{
-    if 0 < fill {
-        let own = *bytes;
-        return row_of(with_bytes(Rest { fill, bytes: own }, block, from, to));
+    // The row of the line, which ends; one that is too long cannot be read.
+    fn row(&self) -> Row
+        ensures { result ≡ row_in (pending_of self.now) }
+    {
+        self.bytes.get(..self.fill).map_or_else(unreadable, read)
     }
-    if 1024 < to - from {
-        return unreadable();
+
+    // The row of the line, which ends with the bytes that follow; nothing is left of it. Where none came before, it is
+    // read where these stand, and no byte is copied.
+    pub fn ended(&mut self, more: &[u8]) -> Row
+        ensures row { result ≡ row_in (kept_all (pending_of self.old) more.now) }
+        ensures left { pending_of self.new ≡ part [] }
+    {
+        if 0 < self.fill {
+            self.push(more);
+            let row = self.row();
+            self.fill = 0;
+            return row;
+        }
+        if 1024 < more.len() {
+            return unreadable();
+        }
+        read(more)
     }
-    read(&block[from..to])
 }

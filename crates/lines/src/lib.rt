@@ -1,5 +1,5 @@
-// Text: a line as the call that it is, an answer as the line that it is, and what has come of a line that has not ended. It knows farms and bytes, and no
-// block of input. What a line is answered is in specs/Model.antt.
+// Text: a line as the call that it is, an answer as the line that it is, and what has come of a line that has not
+// ended. It knows farms and bytes, and no block of input. What a line is answered is in specs/Model.antt.
 #![tactic(auto)]
 
 pub mod answer;
@@ -22,18 +22,19 @@ pub enum Query {
     Account(u64),
 }
 
-// What a line asks for: to open a farm, a call that decides which jobs wait, one that only tells, a clock move to a time, or nothing
-// that can be read.
+// What a line asks for: to open a farm, a call that decides which jobs wait, one that only tells, or a clock move to a
+// time.
 #[derive(Clone, Copy)]
 pub enum Order {
     Open,
     Command(Command),
     Query(Query),
     Clock(u64),
-    Unreadable,
 }
 
 // What has come of a line that has not ended: its first `fill` bytes. A fill above 1,024 says that it is too long.
+// What may not change: `pending_of` and `rest_long` (specs/) speak of a fill above 1,024; and a `Session` can be
+// copied, which one with the kit's ArrayVec, which would count its bytes itself, cannot.
 #[derive(Clone, Copy)]
 pub struct Rest {
     pub fill: usize,

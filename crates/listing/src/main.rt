@@ -3,7 +3,7 @@
 // answer a line, its fields parted by tabs; the lines of a timetable come before its answer.
 #![tactic(auto)]
 
-use answers::{Answer, ComputeCost, Offer};
+use answers::{Answer, Granted, Offer};
 use limits::FarmCosts;
 use planner::{Farm, Reply, Timetable};
 use std::io;
@@ -20,55 +20,44 @@ const UNUSED: Chunk = Chunk {
     computed: 0,
 };
 
-fn put(rt: &impl Print, word: &[u8], numbers: &[u64]) -> io::Result<()> {
-    rt.write_all(word)?;
-    let mut i = 0;
-    while i < numbers.len() {
-        print!(rt; "\t{}", numbers[i])?;
-        i += 1;
-    }
-    println!(rt)
-}
-
-// The question of a refusal is left out: no call of this day is refused.
+// The question of a refusal is left out: no call of this day is refused. Its words are its own and not those of the crate
+// lines, which has none for showing.
 fn put_answer(rt: &impl Print, answer: Answer) -> io::Result<()> {
-    match answer {
-        Answer::Open { nodes, shows } => put(rt, b"open", &[nodes, shows]),
-        Answer::Yes {
+    let Ok(granted) = answer else {
+        return println!(rt; "no");
+    };
+    match granted {
+        Granted::Open { nodes, shows } => println!(rt; "open\t{nodes}\t{shows}"),
+        Granted::Yes {
             job,
             start,
             finish,
             nodes,
-        } => put(rt, b"yes", &[job, start, finish, nodes]),
-        Answer::Clock { time, lines } => put(rt, b"clock", &[time, lines]),
-        Answer::Shown { lines } => put(rt, b"shown", &[lines]),
-        Answer::Account {
+        } => println!(rt; "yes\t{job}\t{start}\t{finish}\t{nodes}"),
+        Granted::Clock { time, lines } => println!(rt; "clock\t{time}\t{lines}"),
+        Granted::Shown { lines } => println!(rt; "shown\t{lines}"),
+        Granted::Account {
             show,
             held,
             charged,
-        } => put(rt, b"account", &[show, held, charged]),
-        Answer::Gone { job } => put(rt, b"gone", &[job]),
-        Answer::Quote {
+        } => println!(rt; "account\t{show}\t{held}\t{charged}"),
+        Granted::Gone { job } => println!(rt; "gone\t{job}"),
+        Granted::Quote {
             job,
             start,
             finish,
             nodes,
-        } => put(rt, b"quote", &[job, start, finish, nodes]),
-        Answer::No(_) => put(rt, b"no", &[0; 0]),
+        } => println!(rt; "quote\t{job}\t{start}\t{finish}\t{nodes}"),
     }
 }
 
-// The records that were written; one that was not has job 0.
-fn put_chunks(rt: &impl Print, chunks: [Chunk; 1024]) -> io::Result<()> {
-    for i in 0..1024 {
-        let c = chunks[i];
+// The records that were written; one that was not has job 0. Their count would have to be taken out of the answer.
+fn put_chunks(rt: &impl Print, chunks: &[Chunk]) -> io::Result<()> {
+    for c in chunks {
         if c.job > 0 {
-            put(
-                rt,
-                b"chunk",
-                &[
-                    c.job, c.show, c.node, c.units, c.start, c.sent, c.finish, c.computed,
-                ],
+            println!(rt;
+                "chunk\t{}\t{}\t{}\t{}\t{}\t{}\t{}\t{}",
+                c.job, c.show, c.node, c.units, c.start, c.sent, c.finish, c.computed
             )?;
         }
     }
@@ -76,16 +65,13 @@ fn put_chunks(rt: &impl Print, chunks: [Chunk; 1024]) -> io::Result<()> {
 }
 
 fn put_reply(rt: &impl Print, reply: Reply) -> io::Result<Farm> {
-    let answer = reply.answer;
-    put_answer(rt, answer)?;
+    put_answer(rt, reply.answer)?;
     Ok(reply.farm)
 }
 
 fn put_table(rt: &impl Print, table: Timetable) -> io::Result<Farm> {
-    let chunks = table.lines;
-    let reply = table.reply;
-    put_chunks(rt, chunks)?;
-    put_reply(rt, reply)
+    put_chunks(rt, &table.lines)?;
+    put_reply(rt, table.reply)
 }
 
 // A job whose compute cost is the farm's.
@@ -94,7 +80,7 @@ fn offered(show: u64, size: u64, deadline: u64) -> Offer {
         show,
         size,
         deadline,
-        compute: ComputeCost::Absent,
+        compute: None,
     }
 }
 

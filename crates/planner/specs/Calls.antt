@@ -1,6 +1,6 @@
 -- The calls: what each answers, with the paper's number and values, and the farm that it hands back. Offers, questions and answers are those of the crate
 -- answers; which waiting job has a number, and the jobs without it, those of the crate queue.
-pub use Rattle.answers.specs.Model.{SaidWord, Open, Yes, Clock, Shown, Account, Gone, Quote, No, Said, granted, refused, number_of, said, yes_of, offer_of, offer_with, compute_or, asks_offer, quote_word, as_quote}
+pub use Rattle.answers.specs.Model.{SaidWord, Open, Yes, Clock, Shown, Account, Gone, Quote, No, Said, granted, refused, number_of, told, said, yes_of, offer_of, offer_with, compute_or, asks_offer, quote_word, as_quote}
 unfoldable pub use Rattle.queue.specs.Model.{has_number, of_number, without}
 use Rattle.std.specs.Prelude.{ℕ, ◌+◌, ◌-◌, ◌≤◌, ◌<◌, List, [], ◌∷◌, ◌++◌, Bool, true, false, cond, ◌&&◌, ◌≡◌, eqb, length, get_or, replicate}
 use Rattle.limits.specs.declared.FarmCosts.{FarmCosts}
@@ -32,8 +32,8 @@ pub record Tells (f : stored.Farm) (r : Reply) (a : Said) : Type 0 where
 pub record Opens (r : Reply) (a : Said) (next : Farm) : Type 0 where
   pub says : said r.answer ≡ a
   pub hands : meant r.farm ≡ next
-  pub nodes : r.farm.nodes ≡ replicate 8192 0
-  pub shares : r.farm.shares ≡ replicate 8192 0
+  pub nodes : r.farm.cells.nodes ≡ replicate 8192 0
+  pub shares : r.farm.cells.shares ≡ replicate 8192 0
 
 -- ---- Opening
 

@@ -1,7 +1,7 @@
 -- Opening, offers and accounts, question by question: what the functions of src/calls.rt need and promise each other.
-use Rattle.std.specs.Prelude.{◌≡◌, refl, List, [], ◌∷◌, ◌++◌, Bool, false, cond, ◌&&◌, ℕ, suc, ◌+◌, ◌-◌, ◌≤◌, ◌<◌, leb, ltb, length, get_or, take, drop, set, replicate}
+use Rattle.std.specs.Prelude.{◌≡◌, refl, List, [], ◌∷◌, ◌++◌, false, ◌&&◌, ℕ, ◌-◌, ◌≤◌, ◌<◌, leb, ltb, length, Ok, Err}
 use Rattle.std.proofs.Math.Path.{ap}
-use Rattle.std.proofs.Common.{ap₂, sym, ◌∙◌, arith, add-one, ltb-true, leb-true, ne_eqb, take-suc-set, take-suc, drop-set-lt, drop-drop}
+use Rattle.std.proofs.Common.{sym, ◌∙◌, ltb-true, leb-true}
 use Rattle.std.proofs.Math.Bool.{true}
 use Rattle.lists.specs.Laws.{all_join, all_map, perm_all}
 use Rattle.limits.specs.declared.FarmCosts.{FarmCosts}
@@ -15,29 +15,19 @@ use Rattle.planner.specs.declared.Farm as stored
 use Rattle.planner.specs.declared.Opening.{Opening}
 use Rattle.answers.specs.declared.Offer.{Offer}
 use Rattle.planner.specs.declared.Reply.{Reply}
-use Rattle.planner.specs.declared.Decision.{Decision}
 use Rattle.answers.specs.declared.Question.{Question}
 use Rattle.answers.specs.declared.Question.TheVariants as question
-use Rattle.answers.specs.declared.Answer.TheVariants as answer
+use Rattle.answers.specs.declared.Granted.TheVariants as answer
 use Rattle.planner.specs.Model.{Farm, farm_of, meant, greatest, between, costs_within, default_costs, waiting_of, walk_terms_of, free_times_of, by_deadline}
 use Rattle.planner.specs.Passes.{passes_of}
 use Rattle.planner.specs.PassesSteps.{passes_within, passes_jobs}
-use Rattle.planner.specs.Parts.{with_entries, new_figures, unopened_figures, new_means, OpensFigures, decided_figures, Decides}
+use Rattle.planner.specs.Parts.{new_figures, unopened_figures, new_means, OpensFigures}
 use Rattle.planner.specs.Calls.{Account, Said, said, granted, refused, number_of, Replies, unopened, shows_within, open_said, open_farm, held_by, allowance_of, account_said, compute_of, asks_offer, offer_asked, offer_said, offer_farm, as_quote, quote_said}
 
 -- ---- Opening
 
--- A copy, one number further.
-pub copy_next : (n i : ℕ) (xs ys : List ℕ) → i < length xs → i < length ys → take i ys ≡ take i xs → drop i ys ≡ replicate (n - i) 0 → i < n
-    → (take (i + 1) (set ys i (get_or xs i 0)) ≡ take (i + 1) xs) × (drop (i + 1) (set ys i (get_or xs i 0)) ≡ replicate (n - (i + 1)) 0)
-copy_next n i xs ys h k p q l =
-    let e : n - i ≡ suc (n - (i + 1)) = omega arith in (
-      rw (add-one i, take-suc-set ys i (get_or xs i 0) k, take-suc xs i 0 h, p),
-      rw (drop-set-lt (i + 1) ys i (get_or xs i 0) (omega arith), ← drop-drop 1 i ys, q, e),
-    )
-
 module _ (n : ℕ) (c : FarmCosts) (al : List ℕ) (r : Opening) where
-  not_opened : (q : Question) → r ≡ record { answer = answer.No q; figures = unopened_figures } → open_said n c al ≡ refused (number_of q) → open_farm n c al ≡ unopened
+  not_opened : (q : Question) → r ≡ record { answer = Err q; figures = unopened_figures } → open_said n c al ≡ refused (number_of q) → open_farm n c al ≡ unopened
       → OpensFigures r (open_said n c al) (open_farm n c al)
   not_opened q e s f = record {
     says = ap (λ (x : Opening). said x.answer) e ∙ sym s;
@@ -45,24 +35,24 @@ module _ (n : ℕ) (c : FarmCosts) (al : List ℕ) (r : Opening) where
   }
 
   -- Refused with 1: the nodes.
-  pub no_nodes : (q : Question) → number_of q ≡ 1 → r ≡ record { answer = answer.No q; figures = unopened_figures } → between 1 n 64 ≡ false → OpensFigures r (open_said n c al) (open_farm n c al)
+  pub no_nodes : (q : Question) → number_of q ≡ 1 → r ≡ record { answer = Err q; figures = unopened_figures } → between 1 n 64 ≡ false → OpensFigures r (open_said n c al) (open_farm n c al)
   unfolding open_said open_farm
   no_nodes q m e a = not_opened q e (rw (a, m)) (rw a)
 
   -- Refused with 2: the costs.
-  pub no_costs : (q : Question) → number_of q ≡ 2 → r ≡ record { answer = answer.No q; figures = unopened_figures } → between 1 n 64 ≡ true → costs_within c ≡ false
+  pub no_costs : (q : Question) → number_of q ≡ 2 → r ≡ record { answer = Err q; figures = unopened_figures } → between 1 n 64 ≡ true → costs_within c ≡ false
       → OpensFigures r (open_said n c al) (open_farm n c al)
   unfolding open_said open_farm
   no_costs q m e a b = not_opened q e (rw (a, b, m)) (rw (a, b))
 
   -- Refused with 3: the shows.
-  pub no_shows : (q : Question) → number_of q ≡ 3 → r ≡ record { answer = answer.No q; figures = unopened_figures } → between 1 n 64 ≡ true → costs_within c ≡ true → shows_within al ≡ false
+  pub no_shows : (q : Question) → number_of q ≡ 3 → r ≡ record { answer = Err q; figures = unopened_figures } → between 1 n 64 ≡ true → costs_within c ≡ true → shows_within al ≡ false
       → OpensFigures r (open_said n c al) (open_farm n c al)
   unfolding open_said open_farm
   no_shows q m e a b d = not_opened q e (rw (a, b, d, m)) (rw (a, b, d))
 
   -- Granted.
-  pub opens : r ≡ record { answer = answer.Open n (length al); figures = new_figures true n c al } → between 1 n 64 ≡ true → costs_within c ≡ true → shows_within al ≡ true
+  pub opens : r ≡ record { answer = Ok (answer.Open n (length al)); figures = new_figures true n c al } → between 1 n 64 ≡ true → costs_within c ≡ true → shows_within al ≡ true
       → OpensFigures r (open_said n c al) (open_farm n c al)
   unfolding open_said open_farm
   opens e a b d = record {
@@ -111,30 +101,15 @@ quote_unsound f o e = let s : offer_said f o ≡ refused 11 = rw (asked_farm f o
 -- ---- Replies
 
 -- A refusal that hands back the farm, where the call is refused so and hands the farm back.
-pub refuses : (f : stored.Farm) (r : Reply) (q : Question) (s : Said) (next : Farm) → r ≡ record { answer = answer.No q; farm = f } → s ≡ refused (number_of q) → meant f ≡ next → Replies f r s next
+pub refuses : (f : stored.Farm) (r : Reply) (q : Question) (s : Said) (next : Farm) → r ≡ record { answer = Err q; farm = f } → s ≡ refused (number_of q) → meant f ≡ next → Replies f r s next
 refuses f r q s next e n m = record {
   says = ap (λ (x : Reply). said x.answer) e ∙ sym n;
   hands = ap (λ (x : Reply). meant x.farm) e ∙ m;
   same = λ _. ap (λ (x : Reply). x.farm) e;
 }
 
--- The reply of a decision.
-pub decides_replies : (f : stored.Farm) (s : Said) (next : Farm) (d : Decision) (ks xs : List ℕ) (r : Reply)
-    → r ≡ record { answer = d.answer; farm = record { figures = decided_figures f.figures d; nodes = ks; shares = xs } }
-    → Decides f.figures f.nodes f.shares s next d ks xs → Replies f r s next
-decides_replies f s next d ks xs r e x = record {
-  says = ap (λ (y : Reply). said y.answer) e ∙ x.says;
-  hands = ap (λ (y : Reply). meant y.farm) e ∙ x.hands;
-  same = λ h.
-      let no : d.granted ≡ false = x.granted ∙ ne_eqb s.number 0 h in
-      let rows = x.same no in
-      ap (λ (y : Reply). y.farm) e
-      ∙ ap (λ (b : Bool). record { figures = cond b (with_entries f.figures d.used d.waiting d.jobs) f.figures; nodes = ks; shares = xs }) no
-      ∙ ap₂ (λ (p q : List ℕ). record { figures = f.figures; nodes = p; shares = q }) rows.0 rows.1;
-}
-
 -- An offer to a farm that does not pass is refused with 11.
-pub offer_unsound : (f : stored.Farm) (o : Offer) (r : Reply) → passes_of (meant f) ≡ false → r ≡ record { answer = answer.No question.Farm; farm = f }
+pub offer_unsound : (f : stored.Farm) (o : Offer) (r : Reply) → passes_of (meant f) ≡ false → r ≡ record { answer = Err question.Farm; farm = f }
     → Replies f r (offer_said (meant f) o) (offer_farm (meant f) o)
 unfolding offer_said offer_farm
 offer_unsound f o r e h = let a = asked_farm (meant f) o e in refuses f r question.Farm _ _ h (rw a) (rw a)

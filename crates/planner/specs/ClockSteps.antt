@@ -1,17 +1,16 @@
 -- A clock move and showing, question by question: what the functions of src/clock.rt need and promise each other.
-use Rattle.std.specs.Prelude.{◌≡◌, refl, Bool, true, false, cond, not, ℕ, zero, suc, ◌+◌, ◌-◌, ◌≤◌, ◌<◌, leb, eqb, get_or, take, set}
+use Rattle.std.specs.Prelude.{◌≡◌, refl, Bool, true, false, cond, not, ℕ, zero, suc, ◌+◌, ◌-◌, ◌≤◌, ◌<◌, leb, eqb, get_or, take, set, Result, Ok, Err, is_ok, IfOk}
 use Rattle.std.proofs.Math.Path.{ap, sym}
-use Rattle.std.proofs.Common.{ap₂, subst, ◌∙◌, arith, leb-true, le-leb, eqb-true, eq-eqb, ne_eqb, take-append-drop, take_at, get_or-take}
+use Rattle.std.proofs.Common.{ap₂, subst, ◌∙◌, arith, leb-true, le-leb, eqb-true, eq-eqb, ne_eqb, take-append-drop, take_at}
 use mathlib.Core.List.Permᴰ
 use mathlib.Core.List.{List, [], ◌∷◌, ◌++◌}
 use Rattle.std.proofs.lemmas.Bool.{lt-leb}
 use Rattle.std.proofs.Math.ListN.{length, drop}
-use Rattle.std.proofs.lemmas.List.{length-map}
+use Rattle.std.proofs.lemmas.List.{length-map, length-take}
 use Rattle.std.proofs.Math.Seq.{length-take-le}
 use Rattle.lists.specs.Laws.{All, all_map, all_both, all_front, all_take, perm_all, perm_length, front_none}
 use Rattle.lists.specs.Fronts.{Kept, behind_same, kept_same, kept_all_lem}
 use Rattle.lists.specs.Places.{each_at}
-use Rattle.limits.specs.declared.FarmCosts.{FarmCosts}
 use Rattle.booking.specs.Best.{chosen}
 use Rattle.walk.specs.declared.Job.{Job}
 use Rattle.walk.specs.declared.QueueEntry.{QueueEntry}
@@ -19,6 +18,7 @@ use Rattle.walk.specs.declared.FreeTimes.{FreeTimes}
 use Rattle.walk.specs.declared.Chunk.{Chunk}
 use Rattle.keys.specs.declared.Key.{Key}
 use Rattle.walk.specs.Order.{by_start_perm}
+use Rattle.walk.specs.OrderSteps.{in_order_front}
 use Rattle.walk.specs.Chunks.{Sendable}
 use Rattle.timetable.specs.declared.Due.{Due}
 use Rattle.walk.specs.View.{job_at, jobs_of, no_entry, Short, Few, job_there}
@@ -34,14 +34,13 @@ use Rattle.planner.specs.declared.Farm as stored
 use Rattle.planner.specs.declared.Reply.{Reply}
 use Rattle.answers.specs.declared.Question.{Question}
 use Rattle.answers.specs.declared.Question.TheVariants as question
-use Rattle.answers.specs.declared.Answer.TheVariants as answer
+use Rattle.answers.specs.declared.Granted.TheVariants as answer
 use Rattle.planner.specs.declared.Move.{Move}
-use Rattle.planner.specs.declared.clock.Issue.{Issue}
 use Rattle.planner.specs.Model.{Farm, meant, greatest, most_held, between, Between, no_job, afters, in_order, by_start, waiting_of, free_times_of, JobSized, Sized}
 use Rattle.planner.specs.Passes.{passes_of, bounds_of, JobWithin}
 use Rattle.planner.specs.PassesSteps.{passes_within, passes_jobs, passes_few}
 use Rattle.planner.specs.Changes.{with_jobs, at_time}
-use Rattle.planner.specs.Calls.{Clock, Shown, said, number_of, granted, Replies, Tells}
+use Rattle.planner.specs.Calls.{Clock, Shown, Said, said, told, number_of, granted, refused, Replies, Tells}
 use Rattle.planner.specs.CallsSteps.{refuses}
 use Rattle.planner.specs.Clock.{keep, starts_by, starts_after, lines_of_all, raised, begun, waiting_on, issued, moved_farm, move_asked, move_said, move_farm, move_memory, move_lines, shown, shown_asked, shown_said, shown_memory, shown_lines}
 
@@ -176,8 +175,11 @@ few_entries ks xs a (suc n) (g ∷ hs) h = (h.0, few_entries ks xs (suc a) n hs 
 
 module _ (f : Farm) (sized : Sized f) (e : passes_of f ≡ true) where
   -- what is asked to find it
-  pub due_asked : (ks xs : List ℕ) (hs : List QueueEntry) → f.jobs ≡ jobs_of ks xs hs → (f.waiting ≤ 128) × All Short (take f.waiting hs)
-  due_asked ks xs hs q = (waiting_few f sized e, few_entries ks xs 0 f.waiting hs (subst (λ (js : List Job). All Few (take f.waiting js)) q (passes_few f e)))
+  pub due_asked : (ks xs : List ℕ) (hs : List QueueEntry) → f.jobs ≡ jobs_of ks xs hs → (length (take f.waiting hs) ≤ 128) × All Short (take f.waiting hs)
+  due_asked ks xs hs q = (
+    omega (arith, length-take f.waiting hs, waiting_few f sized e),
+    few_entries ks xs 0 f.waiting hs (subst (λ (js : List Job). All Few (take f.waiting js)) q (passes_few f e)),
+  )
 
 module _ (f : Farm) (t : ℕ) (d : Due) (sized : Sized f) (x : Begins f t d) where
   -- The jobs that the keys name.
@@ -186,6 +188,9 @@ module _ (f : Farm) (t : ℕ) (d : Due) (sized : Sized f) (x : Begins f t d) whe
 
   pub begins_few : d.count ≤ 128
   begins_few = omega (arith, x.due.few, waiting_few f sized x.passes)
+
+  pub begins_keys : length (take d.count d.keys) ≤ 128
+  begins_keys = omega (arith, length-take d.count d.keys, begins_few)
 
   pub begins_places : All (λ (k : Key). k.place < 128) (take d.count d.keys)
   begins_places = all_map (λ k p. omega (arith, waiting_few f sized x.passes)) (take d.count d.keys) x.due.places
@@ -298,121 +303,108 @@ module _ (f : Farm) (t : ℕ) (size : length f.jobs ≡ 128) (most : f.waiting �
           left = kept_moved ks xs ks' xs' hs kept i (get_or hs i no_entry).count g (omega arith) x.sized refl (waits_few a) m (waiting_on f t) f.jobs _ next;
         }
 
+-- what a move says before its lines are written
+abbrev pub step_said : Result Move Question → Said
+step_said (Ok m) = told m.answer
+step_said (Err q) = refused (number_of q)
+
 -- what a move on a farm that passes comes to before its lines are written
-pub record MoveDecides (f : Farm) (t n : ℕ) (r : Move) : Type 0 where
-  pub says : said r.answer ≡ move_said f t n
-  pub granted : r.granted ≡ eqb (move_asked f t n) 0
-  pub due : IsDue f.jobs f.waiting t r.due
+pub record MoveDecides (f : Farm) (t n : ℕ) (r : Result Move Question) : Type 0 where
+  pub says : step_said r ≡ move_said f t n
+  pub granted : is_ok r ≡ eqb (move_asked f t n) 0
+  pub due : IfOk r (λ m. IsDue f.jobs f.waiting t m.due)
+  pub sized : Sized f
+
+module _ (f : Farm) (t n : ℕ) (sized : Sized f) where
+  -- Refused with 11: the farm.
+  pub decides_unsound : passes_of f ≡ false → MoveDecides f t n (Err question.Farm)
+  unfolding move_said
+  decides_unsound e = let a = move_unsound f t n e in record { says = rw a; granted = rw a; due = tt; sized = sized }
+
+  -- Refused with 9: the time.
+  pub decides_untimely : passes_of f ≡ true → between f.clock t greatest ≡ false → MoveDecides f t n (Err question.Time)
+  unfolding move_said
+  decides_untimely e b = let a = move_untimely f t n e b in record { says = rw a; granted = rw a; due = tt; sized = sized }
 
 module _ (f : Farm) (t n : ℕ) (d : Due) (sized : Sized f) (x : Begins f t d) where
-  -- Refused with 9: the time.
-  pub decides_untimely : between f.clock t greatest ≡ false → MoveDecides f t n (record { granted = false; answer = answer.No question.Time; due = d })
-  unfolding move_said
-  decides_untimely b = let a = move_untimely f t n x.passes b in record { says = rw a; granted = rw a; due = x.due }
-
   -- Refused with 10: the lent timetable.
-  pub decides_unheld : between f.clock t greatest ≡ true → n < d.lines → MoveDecides f t n (record { granted = false; answer = answer.No question.Lines; due = d })
+  pub decides_unheld : between f.clock t greatest ≡ true → n < d.lines → MoveDecides f t n (Err question.Lines)
   unfolding move_said
   decides_unheld b h =
       let a = move_unheld f t n x.passes b (lt-leb (length (issued f t)) n (omega (arith, begins_count f t d sized x))) in
-      record { says = rw a; granted = rw a; due = x.due }
+      record { says = rw a; granted = rw a; due = tt; sized = sized }
 
   -- Granted.
-  pub decides_granted : between f.clock t greatest ≡ true → d.lines ≤ n → MoveDecides f t n (record { granted = true; answer = answer.Clock t d.lines; due = d })
+  pub decides_granted : between f.clock t greatest ≡ true → d.lines ≤ n → MoveDecides f t n (Ok (record { answer = answer.Clock t d.lines; due = d }))
   unfolding move_said
   decides_granted b h =
       let a = move_asked_lem f t n x.passes b (le-leb (length (issued f t)) n (omega (arith, begins_count f t d sized x))) in
-      record { says = rw a (ap (λ (i : ℕ). granted Clock (t ∷ i ∷ [])) (sym (begins_count f t d sized x))); granted = rw a; due = x.due }
+      record { says = rw a (ap (λ (i : ℕ). granted Clock (t ∷ i ∷ [])) (sym (begins_count f t d sized x))); granted = rw a; due = x.due; sized = sized }
 
 -- What follows for the farm that is handed back, and for the lines.
-module _ (f : Farm) (t n : ℕ) (r : Move) (x : MoveDecides f t n r) where
-  pub move_refused : r.granted ≡ false → (move_farm f t n ≡ f) × (move_lines f t n ≡ [])
-  unfolding move_farm
-  move_refused e = let z = sym x.granted ∙ e in (rw z, rw z)
+pub move_refused : (f : Farm) (t n : ℕ) (q : Question) → MoveDecides f t n (Err q) → (move_farm f t n ≡ f) × (move_lines f t n ≡ [])
+unfolding move_farm
+move_refused f t n q x = let z = sym x.granted in (rw z, rw z)
 
-  pub move_taken : r.granted ≡ true → (move_farm f t n ≡ moved_farm f t) × (move_lines f t n ≡ issued f t) × (length (issued f t) ≤ n)
-  unfolding move_farm
-  move_taken e = let z = sym x.granted ∙ e in (rw z, rw z, (move_granted f t n (eqb-true (move_asked f t n) 0 z)).lines)
+pub move_taken : (f : Farm) (t n : ℕ) (r : Move) → MoveDecides f t n (Ok r) → (move_farm f t n ≡ moved_farm f t) × (move_lines f t n ≡ issued f t) × (length (issued f t) ≤ n)
+unfolding move_farm
+move_taken f t n r x = let z = sym x.granted in (rw z, rw z, (move_granted f t n (eqb-true (move_asked f t n) 0 z)).lines)
 
--- the lines of these jobs are due: they can be worked out, and there is room for them
-pub record LinesDue (c : FarmCosts) (ls : List Chunk) (room : ℕ) (r : Issue) : Type 0 where
-  pub few : r.count ≤ 128
-  pub sends : All (Sendable c) (take r.count r.jobs)
-  pub lines : lines_of_all c (take r.count r.jobs) ≡ ls
-  pub fits : length ls ≤ room
+-- ---- A clock move
 
-none_due : (c : FarmCosts) (n : ℕ) (r : Issue) → r.count ≡ 0 → LinesDue c [] n r
-unfolding lines_of_all
-none_due c n r e = record {
-  few = omega arith;
-  sends = subst (λ (k : ℕ). All (Sendable c) (take k r.jobs)) (sym e) tt;
-  lines = subst (λ (k : ℕ). lines_of_all c (take k r.jobs) ≡ []) (sym e) refl;
-  fits = omega arith;
-}
-
--- a call that is stopped at a question hands back the very farm, and nothing is due
-pub record Stops (f : stored.Farm) (q : Question) (r : Issue) : Type 0 where
-  pub none : r.count ≡ 0
-  pub reply : r.reply ≡ record { answer = answer.No q; farm = f }
-
-pub record MoveIssues (f : stored.Farm) (t n : ℕ) (r : Issue) : Type 0 where
-  pub replies : Replies f r.reply (move_said (meant f) t n) (move_farm (meant f) t n)
-  pub due : LinesDue (meant f).costs (move_lines (meant f) t n) n r
-
--- A move that is stopped at a question writes nothing.
-pub move_stops : (f : stored.Farm) (t n m : ℕ) (q : Question) (r : Issue) → Stops f q r → move_asked (meant f) t n ≡ suc m → number_of q ≡ suc m → MoveIssues f t n r
-unfolding move_said move_farm
-move_stops f t n m q r e a b =
-    let z = ne_eqb (move_asked (meant f) t n) 0 (λ h. omega (arith, a)) in
-    record {
-      replies = refuses f r.reply q (move_said (meant f) t n) (move_farm (meant f) t n) e.reply (rw (z, a, b)) (rw z);
-      due = subst (λ (l : List Chunk). LinesDue (meant f).costs l n r) (sym (ap (λ (x : Bool). cond x (issued (meant f) t) []) z)) (none_due (meant f).costs n r e.none);
-    }
+-- A move that is refused hands back the very farm, and writes nothing.
+pub move_stops : (f : stored.Farm) (t : ℕ) (m : List Chunk) (q : Question) (r : Reply) → r ≡ record { answer = Err q; farm = f } → MoveDecides (meant f) t (length m) (Err q)
+    → Replies f r (move_said (meant f) t (length m)) (move_farm (meant f) t (length m)) × (m ≡ move_memory (meant f) t m)
+unfolding move_farm move_memory
+move_stops f t m q r e x =
+    let z = sym x.granted in
+    (refuses f r q (move_said (meant f) t (length m)) (move_farm (meant f) t (length m)) e (sym x.says) (rw z), rw z)
 
 move_number : (f : Farm) (t n : ℕ) → eqb (move_asked f t n) 0 ≡ true → (move_said f t n).number ≡ 0
 unfolding move_said
 move_number f t n e = rw e
 
--- A move that is granted writes the lines of what begins.
-pub move_goes : (f : stored.Farm) (t n : ℕ) (r : Move) (jobs : List Job) (next : stored.Farm) → Sized (meant f) → passes_of (meant f) ≡ true → MoveDecides (meant f) t n r → r.granted ≡ true → take r.due.count jobs ≡ in_order (meant f).jobs (take r.due.count r.due.keys)
-    → meant next ≡ moved_farm (meant f) t → MoveIssues f t n (record { count = r.due.count; jobs = jobs; reply = record { answer = r.answer; farm = next } })
-move_goes f t n r jobs next sized e x g q m =
-    let b : Begins (meant f) t r.due = record { passes = e; due = x.due } in
-    let k = move_taken (meant f) t n r x g in
-    record {
-      replies = record { says = x.says; hands = m ∙ sym k.0; same = λ h. absurd (h (move_number (meant f) t n (sym x.granted ∙ g))) };
-      due = record {
-        few = begins_few (meant f) t r.due sized b;
-        sends = subst (All (Sendable (meant f).costs)) (sym q) (begins_sends (meant f) t r.due sized b);
-        lines = ap (lines_of_all (meant f).costs) q ∙ begins_lines (meant f) t r.due sized b ∙ sym k.1;
-        fits = subst (λ (l : List Chunk). length l ≤ n) (sym k.1) k.2;
-      };
-    }
+-- What is due, at the front of an array of jobs: what its writer asks for, and what it leaves.
+module _ (f : Farm) (t : ℕ) (d : Due) (sized : Sized f) (x : Begins f t d) (js : List Job) (q : take d.count js ≡ in_order f.jobs (take d.count d.keys)) where
+  due_sends : All (Sendable f.costs) (take d.count js)
+  due_sends = subst (All (Sendable f.costs)) (sym q) (begins_sends f t d sized x)
 
--- Keys name the same jobs in two lists that begin alike.
-named_alike : (n : ℕ) (one other : List Job) (ks : List Key) → n ≤ length one → n ≤ length other → take n one ≡ take n other → All (λ (k : Key). k.place < n) ks → in_order one ks ≡ in_order other ks
-named_alike n one other [] h l e p = refl
-named_alike n one other (k ∷ ks) h l e p =
-    ap₂ ◌∷◌ (sym (get_or-take n one k.place no_job p.0) ∙ ap (λ (js : List Job). get_or js k.place no_job) e ∙ get_or-take n other k.place no_job p.0) (named_alike n one other ks h l e p.1)
+  due_lines : lines_of_all f.costs (take d.count js) ≡ issued f t
+  due_lines = ap (lines_of_all f.costs) q ∙ begins_lines f t d sized x
+
+  due_count : chunks (take d.count js) ≡ length (issued f t)
+  due_count = sym (all_lines f.costs (take d.count js) due_sends) ∙ ap length due_lines
+
+  pub due_asks : (n : ℕ) → length (issued f t) ≤ n → All (Sendable f.costs) (take d.count js) × (chunks (take d.count js) ≤ n)
+  due_asks n h = (due_sends, omega (arith, due_count))
+
+  pub due_written : (m : List Chunk) → lines_of_all f.costs (take d.count js) ++ drop (chunks (take d.count js)) m ≡ issued f t ++ drop (length (issued f t)) m
+  due_written m = rw (due_lines, due_count)
+
+-- A move that is granted writes the lines of what begins.
+pub move_goes : (f : stored.Farm) (t : ℕ) (m out : List Chunk) (r : Move) (next : stored.Farm) → MoveDecides (meant f) t (length m) (Ok r)
+    → meant next ≡ moved_farm (meant f) t → out ≡ issued (meant f) t ++ drop (length (issued (meant f) t)) m
+    → Replies f (record { answer = Ok r.answer; farm = next }) (move_said (meant f) t (length m)) (move_farm (meant f) t (length m)) × (out ≡ move_memory (meant f) t m)
+unfolding move_farm move_memory
+move_goes f t m out r next x e o =
+    let z = sym x.granted in (
+      record {
+        says = x.says;
+        hands = e ∙ rw z;
+        same = λ h. absurd (h (move_number (meant f) t (length m) z));
+      },
+      o ∙ rw z,
+    )
 
 -- The jobs that are due, at the front of an array.
-pub due_front : (f : Farm) (t : ℕ) (d : Due) (all js : List Job) → Sized f → Begins f t d → length all ≡ 128 → take f.waiting all ≡ waiting_of f → js ≡ in_order all (take d.count d.keys) ++ drop d.count all
+pub due_front : (f : Farm) (t : ℕ) (d : Due) (all js : List Job) → Sized f → Begins f t d → length all ≡ 128 → take f.waiting all ≡ waiting_of f → js ≡ in_order all (take d.count d.keys) ++ drop (length (take d.count d.keys)) all
     → take d.count js ≡ in_order f.jobs (take d.count d.keys)
 due_front f t d all js sized x full front e =
-    ap (take d.count) e ∙ take_at (in_order all (take d.count d.keys)) (drop d.count all) d.count
+    ap (take d.count) e ∙ take_at (in_order all (take d.count d.keys)) (drop (length (take d.count d.keys)) all) d.count
     (length-map (take d.count d.keys) (λ (k : Key). get_or all k.place no_job) ∙ length-take-le d.count d.keys (omega (arith, begins_few f t d sized x, x.due.whole)))
-    ∙ named_alike f.waiting all f.jobs (take d.count d.keys) (omega (arith, waiting_few f sized x.passes)) (omega (arith, waiting_few f sized x.passes, sized.jobs)) front x.due.places
-
--- One that is refused writes nothing.
-pub move_stays : (f : stored.Farm) (t n : ℕ) (r : Move) (jobs : List Job) → MoveDecides (meant f) t n r → r.granted ≡ false
-    → MoveIssues f t n (record { count = 0; jobs = jobs; reply = record { answer = r.answer; farm = f } })
-unfolding lines_of_all
-move_stays f t n r jobs x g =
-    let k = move_refused (meant f) t n r x g in
-    record {
-      replies = record { says = x.says; hands = sym k.0; same = λ _. refl };
-      due = record { few = omega arith; sends = tt; lines = sym k.1; fits = subst (λ (l : List Chunk). length l ≤ n) (sym k.1) (omega arith) };
-    }
+    ∙ in_order_front all f.waiting (take d.count d.keys) x.due.places
+    ∙ ap (λ (l : List Job). in_order l (take d.count d.keys)) front
+    ∙ sym (in_order_front f.jobs f.waiting (take d.count d.keys) x.due.places)
 
 -- ---- A move that begins no job
 
@@ -468,37 +460,17 @@ move_memory_lem f t m = go (eqb (move_asked f t (length m)) 0)
     go true = refl
     go false = refl
 
--- What is due, with its costs and its jobs by themselves, as the writer asks for it and as it leaves the memory.
-module _ (c : FarmCosts) (ls : List Chunk) (n : ℕ) (r : Issue) (x : LinesDue c ls n r) (c' : FarmCosts) (js : List Job) (e : c' ≡ c) (q : js ≡ r.jobs) where
-  due_sends : All (Sendable c') (take r.count js)
-  due_sends = rw (e, q) x.sends
+-- ---- Showing
 
-  due_lines : lines_of_all c' (take r.count js) ≡ ls
-  due_lines = rw (e, q) x.lines
-
-  due_count : chunks (take r.count js) ≡ length ls
-  due_count = sym (all_lines c' (take r.count js) due_sends) ∙ ap length due_lines
-
-  pub due_asks : (r.count ≤ 128) × All (Sendable c') (take r.count js) × (chunks (take r.count js) ≤ n)
-  due_asks = (x.few, due_sends, omega (arith, due_count, x.fits))
-
-  pub due_written : (m : List Chunk) → lines_of_all c' (take r.count js) ++ drop (chunks (take r.count js)) m ≡ ls ++ drop (length ls) m
-  due_written m = rw (due_lines, due_count)
-
--- ---- Showing, worked out
-
-pub record ShowIssues (f : stored.Farm) (n : ℕ) (r : Issue) : Type 0 where
-  pub replies : Tells f r.reply (shown_said (meant f) n)
-  pub due : LinesDue (meant f).costs (shown_lines (meant f) n) n r
-
-pub show_stops : (f : stored.Farm) (n m : ℕ) (q : Question) (r : Issue) → Stops f q r → shown_asked (meant f) n ≡ suc m → number_of q ≡ suc m → ShowIssues f n r
-unfolding shown_said
-show_stops f n m q r e a b =
-    let z = ne_eqb (shown_asked (meant f) n) 0 (λ h. omega (arith, a)) in
-    record {
-      replies = record { says = ap (λ (y : Reply). said y.answer) e.reply ∙ rw (z, a, b); hands = ap (λ (y : Reply). y.farm) e.reply };
-      due = subst (λ (l : List Chunk). LinesDue (meant f).costs l n r) (sym (ap (λ (x : Bool). cond x (shown (meant f)) []) z)) (none_due (meant f).costs n r e.none);
-    }
+-- Showing that is refused writes nothing.
+pub show_stops : (f : stored.Farm) (m : List Chunk) (n : ℕ) (q : Question) (r : Reply) → r ≡ record { answer = Err q; farm = f } → shown_asked (meant f) (length m) ≡ suc n → number_of q ≡ suc n
+    → Tells f r (shown_said (meant f) (length m)) × (m ≡ shown_memory (meant f) m)
+unfolding shown_said shown_memory
+show_stops f m n q r e a b =
+    let z = ne_eqb (shown_asked (meant f) (length m)) 0 (λ h. omega (arith, a)) in (
+      record { says = ap (λ (y : Reply). said y.answer) e ∙ rw (z, a, b); hands = ap (λ (y : Reply). y.farm) e },
+      rw z,
+    )
 
 -- The lines that are shown are as many as the waiting bookings' chunks.
 pub shown_lines_lem : (f : Farm) (ordered : List Job) → take f.waiting ordered ≡ by_start (waiting_of f) → All (CanBegin f) (take f.waiting ordered)
@@ -506,7 +478,25 @@ pub shown_lines_lem : (f : Farm) (ordered : List Job) → take f.waiting ordered
 shown_lines_lem f ordered o h =
     ap (λ (js : List Job). length (lines_of_all f.costs js)) (sym o) ∙ all_lines f.costs (take f.waiting ordered) (can_begin_sends f (take f.waiting ordered) h)
 
-shown_fits : (f : Farm) (n : ℕ) → shown_asked f n ≡ 0 → length (shown f) ≤ n
+-- What its writer asks for, and what it leaves.
+module _ (f : Farm) (ordered : List Job) (o : take f.waiting ordered ≡ by_start (waiting_of f)) (h : All (CanBegin f) (take f.waiting ordered)) where
+  pub shown_sends : All (Sendable f.costs) (take f.waiting ordered)
+  shown_sends = can_begin_sends f (take f.waiting ordered) h
+
+  pub shown_written : (m : List Chunk) → lines_of_all f.costs (take f.waiting ordered) ++ drop (chunks (take f.waiting ordered)) m ≡ shown f ++ drop (length (shown f)) m
+  shown_written m =
+      ap₂ (λ (xs : List Chunk) (n : ℕ). xs ++ drop n m) (ap (lines_of_all f.costs) o) (sym (shown_lines_lem f ordered o h))
+
+-- Showing that is granted writes the lines of every waiting booking.
+pub show_goes : (f : stored.Farm) (m out : List Chunk) (lines : ℕ) → shown_asked (meant f) (length m) ≡ 0 → lines ≡ length (shown (meant f)) → out ≡ shown (meant f) ++ drop (length (shown (meant f))) m
+    → Tells f (record { answer = Ok (answer.Shown lines); farm = f }) (shown_said (meant f) (length m)) × (out ≡ shown_memory (meant f) m)
+unfolding shown_said shown_memory
+show_goes f m out lines a e o =
+    let z = eq-eqb (shown_asked (meant f) (length m)) 0 a in
+    (record { says = rw z (ap (λ (i : ℕ). granted Shown (i ∷ [])) e); hands = refl }, o ∙ rw z)
+
+-- Showing that is granted has room for the lines.
+pub shown_fits : (f : Farm) (n : ℕ) → shown_asked f n ≡ 0 → length (shown f) ≤ n
 unfolding shown_asked
 shown_fits f n a = go (passes_of f) (leb (length (shown f)) n) refl a
   where
@@ -514,23 +504,6 @@ shown_fits f n a = go (passes_of f) (leb (length (shown f)) n) refl a
     go true true e h = leb-true (length (shown f)) n e
     go true false e h = absurd (omega arith)
     go false b e h = absurd (omega arith)
-
--- Showing that is granted writes the lines of every waiting booking.
-pub show_goes : (f : stored.Farm) (n : ℕ) (ordered : List Job) (lines : ℕ) → (meant f).waiting ≤ 128 → take (meant f).waiting ordered ≡ by_start (waiting_of (meant f)) → All (CanBegin (meant f)) (take (meant f).waiting ordered)
-    → shown_asked (meant f) n ≡ 0 → lines ≡ chunks (take (meant f).waiting ordered)
-    → ShowIssues f n (record { count = (meant f).waiting; jobs = ordered; reply = record { answer = answer.Shown lines; farm = f } })
-unfolding shown_said
-show_goes f n ordered lines w o h a e =
-    let z = eq-eqb (shown_asked (meant f) n) 0 a in
-    record {
-      replies = record { says = rw z (ap (λ (i : ℕ). granted Shown (i ∷ [])) (e ∙ sym (shown_lines_lem (meant f) ordered o h))); hands = refl };
-      due = record {
-        few = w;
-        sends = can_begin_sends (meant f) (take (meant f).waiting ordered) h;
-        lines = ap (lines_of_all (meant f).costs) o ∙ sym (ap (λ (b : Bool). cond b (shown (meant f)) []) z);
-        fits = subst (λ (x : List Chunk). length x ≤ n) (sym (ap (λ (b : Bool). cond b (shown (meant f)) []) z)) (shown_fits (meant f) n a);
-      };
-    }
 
 pub show_memory : (f : Farm) (m : List Chunk) → shown_memory f m ≡ shown_lines f (length m) ++ drop (length (shown_lines f (length m))) m
 unfolding shown_memory

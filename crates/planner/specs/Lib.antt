@@ -6,6 +6,7 @@ pub mod Changes
 pub mod PassesSteps
 pub mod Calls
 pub mod Parts
+pub mod PlaceSteps
 pub mod CallsSteps
 pub mod OfferSteps
 pub mod WithdrawSteps

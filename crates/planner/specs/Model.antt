@@ -52,7 +52,7 @@ farm_of f ks xs = record {
 
 -- the farm that a value of the declared type means
 abbrev pub meant : stored.Farm → Farm
-meant f = farm_of f.figures f.nodes f.shares
+meant f = farm_of f.figures f.cells.nodes f.cells.shares
 
 -- ---- A farm's parts
 

@@ -1,5 +1,5 @@
 -- An offer to a farm that passes question 11: what the functions of src/offers.rt promise each other.
-use Rattle.std.specs.Prelude.{◌≡◌, refl, Bool, true, cond, ◌&&◌, ℕ, ◌+◌, ◌≤◌, ◌<◌, leb, ltb, length, get_or, take, drop, set}
+use Rattle.std.specs.Prelude.{◌≡◌, refl, Bool, true, cond, ◌&&◌, ℕ, ◌+◌, ◌≤◌, ◌<◌, leb, ltb, ◌==◌, length, get_or, take, drop, set, position, Option, Some, None, IsSome, MatchOption, Result, Ok, Err}
 use Rattle.std.proofs.Math.Path.{ap}
 use Rattle.std.proofs.Common.{ap₂, sym, subst, ◌∙◌, arith, add-one, length-append, take-suc-set, drop-set-lt, length-take-le, get_or-take}
 use mathlib.Core.List.{List, [], ◌∷◌, ◌++◌, map, Memᴰ}
@@ -13,30 +13,29 @@ use Rattle.walk.specs.declared.Job.{Job}
 use Rattle.walk.specs.declared.WalkTerms.{WalkTerms}
 use Rattle.walk.specs.declared.FreeTimes.{FreeTimes}
 use Rattle.walk.specs.declared.QueueEntry.{QueueEntry}
-use Rattle.walk.specs.declared.Plan.{Plan}
 use Rattle.walk.specs.View.{no_entry, job_at, jobs_of, bare, bared, job_there}
 use Rattle.walk.specs.Bared.{plan_by_bared, books_by_bared, entries_bared, taken_plan}
-use Rattle.walk.specs.WalkSteps.{Walkable, Ready, Walked, books_feasible}
+use Rattle.walk.specs.WalkSteps.{Walkable, Ready, Planned, books_feasible}
 use Rattle.lists.specs.Places.{each_at, each_length, each_drop}
 use Rattle.planner.specs.declared.Figures.{Figures}
 use Rattle.planner.specs.declared.Decision.{Decision}
-use Rattle.planner.specs.Parts.{FiguresSized, CellsSized, Plans}
+use Rattle.planner.specs.Parts.{FiguresSized, Plans}
 use Rattle.walk.specs.Chunks.{Sendable}
 use Rattle.walk.specs.Order.{by_deadline_perm}
 use Rattle.walk.specs.Plan.{plan_numbers, plan_length, plan_sends}
 use Rattle.queue.specs.Numbers.{number_of_job, has_number_lem}
-use Rattle.queue.specs.Steps.{place_of, place_job, has_place, Seeking, seek_end}
+use Rattle.queue.specs.Steps.{place_of, place_job, has_place}
 use Rattle.answers.specs.Steps.{no_number}
 use Rattle.answers.specs.declared.Offer.{Offer}
 use Rattle.answers.specs.declared.Question.{Question}
 use Rattle.answers.specs.declared.Question.TheVariants as question
-use Rattle.answers.specs.declared.Answer.{Answer}
-use Rattle.answers.specs.declared.Answer.TheVariants as answer
+use Rattle.answers.specs.declared.Granted.{Granted}
 use Rattle.planner.specs.Model.{Farm, farm_of, greatest, between, no_job, waiting_of, walk_terms_of, free_times_of, by_deadline, plan, books_all}
 use Rattle.planner.specs.Passes.{passes_of}
 use Rattle.planner.specs.Changes.{with_jobs}
-use Rattle.planner.specs.Calls.{Said, said, refused, has_number, of_number, number_of, compute_of, OfferGranted, new_job, with_plan, yes_of, offer_asked, offer_said, offer_farm}
+use Rattle.planner.specs.Calls.{Said, told, refused, has_number, of_number, number_of, compute_of, OfferGranted, new_job, with_plan, yes_of, offer_asked, offer_said, offer_farm}
 use Rattle.planner.specs.PassesSteps.{passes_within}
+use Rattle.planner.specs.PlaceSteps.{searched}
 use Rattle.planner.specs.CallsSteps.{Offered, offer_ready, walk_ready, deadline_is, place_is}
 
 asked_yes : (a b c p d e : Bool) → ◌≡◌ {A = ℕ} (cond a (cond b (cond c (cond p (cond d (cond e 0 7) 6) 2) 5) 4) 11) 0
@@ -128,11 +127,10 @@ module _ (F : Figures) (ks xs : List ℕ) (h : QueueEntry) (o : Offered (farm_of
       ∙ sym (map_join bared (waiting_of f) (bare h ∷ []))
 
   -- What the walk of them starts from.
-  pub queued_ready : (F.waiting + 1 ≤ 128) × (F.waiting < 128) × Ready (walk_terms_of (farm_of F ks xs)) (free_times_of (farm_of F ks xs)) (map bare (take (F.waiting + 1) (set F.jobs F.waiting h)))
+  pub queued_ready : (F.waiting + 1 ≤ 128) × Ready (walk_terms_of (farm_of F ks xs)) (free_times_of (farm_of F ks xs)) (map bare (take (F.waiting + 1) (set F.jobs F.waiting h)))
   queued_ready =
       let r = offer_ready f (bare h) o in (
         omega (arith, o.waiting),
-        o.waiting,
         record {
           answered = r.answered;
           costs = r.costs;
@@ -162,100 +160,88 @@ module _ (F : Figures) (ks xs : List ℕ) (h : QueueEntry) (o : Offered (farm_of
       ∙ ap (each_at (job_at ks xs) (0 + n)) (drop-set-lt n F.jobs F.waiting h (omega arith))
       ∙ sym (each_drop (job_at ks xs) 0 n F.jobs)
 
-  module _ (r : Plan) (pks pxs : List ℕ) (w : Walked (walk_terms_of f) (free_times_of f) queued n r pks pxs) where
-    books : r.ok ≡ books_all (walk_terms_of f) (free_times_of f) (by_deadline (waiting_of f ++ bare h ∷ []))
-    books = w.books ∙ sym books_are
+  -- Not all are booked.
+  pub walk_refuses : (pks pxs : List ℕ) → books_all (walk_terms_of (farm_of F ks xs)) (free_times_of (farm_of F ks xs)) (by_deadline (map bare (take (F.waiting + 1) (set F.jobs F.waiting h)))) ≡ false
+      → Plans F ks xs (walk_said (farm_of F ks xs) (bare h)) (walk_farm (farm_of F ks xs) (bare h)) (Err question.Walk) pks pxs
+  walk_refuses pks pxs e = let no = books_are ∙ e in record { says = rw no; granted = rw no; hands = tt; refuses = λ _. rw no }
 
-    -- Not all are booked.
-    pub walk_refuses : r.ok ≡ false → (js : List QueueEntry)
-        → Plans F ks xs (walk_said (farm_of F ks xs) (bare h)) (walk_farm (farm_of F ks xs) (bare h)) (record { granted = false; answer = answer.No question.Walk; used = F.used; waiting = F.waiting; jobs = js }) pks pxs
-    walk_refuses e js =
-        let no = sym books ∙ e in
-        record {
-          says = rw no;
-          granted = rw no;
-          few = λ t. absurd (false≢true t);
-          hands = λ t. absurd (false≢true t);
-          refuses = λ _. rw no;
-          sizes = (w.nodes_size, w.shares_size);
-        }
+  module _ (plans : List QueueEntry) (pks pxs : List ℕ) (w : Planned (walk_terms_of f) (free_times_of f) queued n pks pxs plans) where
+    books : books_all (walk_terms_of f) (free_times_of f) (by_deadline (waiting_of f ++ bare h ∷ [])) ≡ true
+    books = books_are ∙ w.books
 
-    module _ (ok : r.ok ≡ true) where
-      front : take n (jobs_of pks pxs r.jobs) ≡ plan_of
-      front = w.plans ok ∙ sym plan_is
+    front : take n (jobs_of pks pxs plans) ≡ plan_of
+    front = w.jobs_are ∙ sym plan_is
 
-      pub planned_long : F.waiting + 1 ≤ length (jobs_of pks pxs r.jobs)
-      planned_long = omega (arith, o.waiting, each_length (job_at pks pxs) 0 r.jobs, w.size)
+    module _ (place : ℕ) (at : place_of h.number (take n (jobs_of pks pxs plans)) ≡ place) where
+      at_plan : place ≡ place_of h.number plan_of
+      at_plan = sym at ∙ ap (place_of h.number) front
 
-      module _ (place : ℕ) (at : place_of h.number (take n (jobs_of pks pxs r.jobs)) ≡ place) where
-        at_plan : place ≡ place_of h.number plan_of
-        at_plan = sym at ∙ ap (place_of h.number) front
+      within : place_of h.number plan_of < length plan_of
+      within = has_place h.number plan_of (planned_has (walk_terms_of f) (free_times_of f) (waiting_of f) (bare h))
 
-        within : place_of h.number plan_of < length plan_of
-        within = has_place h.number plan_of (planned_has (walk_terms_of f) (free_times_of f) (waiting_of f) (bare h))
+      -- The number stands in the plan.
+      pub new_within : place < F.waiting + 1
+      new_within = omega (arith, at_plan, within, count)
 
-        -- The number stands in the plan.
-        pub new_within : place < F.waiting + 1
-        new_within = omega (arith, at_plan, within, count)
+      -- The job there is that of the plan,
+      there : job_at pks pxs place (get_or plans place no_entry) ≡ get_or plan_of place no_job
+      there =
+          sym (job_there pks pxs plans place (omega (arith, new_within, o.waiting, w.size)))
+          ∙ sym (get_or-take n (jobs_of pks pxs plans) place no_job new_within)
+          ∙ ap (λ (js : List Job). get_or js place no_job) front
 
-        -- The job there is that of the plan,
-        there : job_at pks pxs place (get_or r.jobs place no_entry) ≡ get_or plan_of place no_job
-        there =
-            sym (job_there pks pxs r.jobs place (omega (arith, new_within, o.waiting, w.size)))
-            ∙ sym (get_or-take n (jobs_of pks pxs r.jobs) place no_job new_within)
-            ∙ ap (λ (js : List Job). get_or js place no_job) front
+      -- which is the job of the new number.
+      new_at : job_at pks pxs place (get_or plans place no_entry) ≡ of_number h.number plan_of
+      new_at = there ∙ ap (λ (k : ℕ). get_or plan_of k no_job) at_plan ∙ place_job h.number plan_of within
 
-        -- which is the job of the new number.
-        new_at : job_at pks pxs place (get_or r.jobs place no_entry) ≡ of_number h.number plan_of
-        new_at = there ∙ ap (λ (k : ℕ). get_or plan_of k no_job) at_plan ∙ place_job h.number plan_of within
+      -- Its chunks can be worked out.
+      pub new_sends : Sendable F.costs (job_at pks pxs place (get_or plans place no_entry))
+      new_sends =
+          let g = passes_within f o.passes in
+          let ready = walk_ready f (bare h) o in
+          let queue = by_deadline (waiting_of f ++ bare h ∷ []) in
+          let feasible = books_feasible (walk_terms_of f) (free_times_of f) queue ready.answered (omega (arith, g.nodes.1, z.free)) (all_map (λ x a. a.0) queue ready.jobs) books in
+          subst (Sendable F.costs) (sym there)
+          (all_nth no_job (Sendable F.costs) plan_of place (plan_sends (walk_terms_of f) (free_times_of f) queue g.nodes.1 g.costs z.free ready.jobs feasible) (omega (arith, at_plan, within)))
 
-        -- Its chunks can be worked out.
-        pub new_sends : Sendable F.costs (job_at pks pxs place (get_or r.jobs place no_entry))
-        new_sends =
-            let g = passes_within f o.passes in
-            let ready = walk_ready f (bare h) o in
-            let queue = by_deadline (waiting_of f ++ bare h ∷ []) in
-            let feasible = books_feasible (walk_terms_of f) (free_times_of f) queue ready.answered (omega (arith, g.nodes.1, z.free)) (all_map (λ x a. a.0) queue ready.jobs) (sym books ∙ ok) in
-            subst (Sendable F.costs) (sym there)
-            (all_nth no_job (Sendable F.costs) plan_of place (plan_sends (walk_terms_of f) (free_times_of f) queue g.nodes.1 g.costs z.free ready.jobs feasible) (omega (arith, at_plan, within)))
+      -- All are booked, and the new job is told.
+      pub walk_accepts : (a : Granted) → told a ≡ yes_of F.costs (job_at pks pxs place (get_or plans place no_entry))
+          → Plans F ks xs (walk_said (farm_of F ks xs) (bare h)) (walk_farm (farm_of F ks xs) (bare h)) (Ok (record { answer = a; used = F.used + 1; waiting = F.waiting + 1; jobs = plans })) pks pxs
+      walk_accepts a e =
+          record {
+            says = e ∙ ap (yes_of F.costs) new_at ∙ sym (rw books);
+            granted = rw books;
+            hands = record {
+              few = (omega (arith, o.waiting), w.few);
+              hands = λ ks' xs' p q. rw (books, count)
+                  (ap (with_jobs f (F.used + 1) (F.waiting + 1)) (taken_plan (walk_terms_of f) (free_times_of f) queued n plans pks pxs ks xs ks' xs' w p q ∙ ap₂ ◌++◌ (sym plan_is) behind));
+            };
+            refuses = λ t. absurd (false≢true t);
+          }
 
-        -- All are booked, and the new job is told.
-        pub walk_accepts : (a : Answer) → said a ≡ yes_of F.costs (job_at pks pxs place (get_or r.jobs place no_entry))
-            → Plans F ks xs (walk_said (farm_of F ks xs) (bare h)) (walk_farm (farm_of F ks xs) (bare h)) (record { granted = true; answer = a; used = F.used + 1; waiting = F.waiting + 1; jobs = r.jobs }) pks pxs
-        walk_accepts a e =
-            let yes' = sym books ∙ ok in
-            record {
-              says = e ∙ ap (yes_of F.costs) new_at ∙ sym (rw yes');
-              granted = rw yes';
-              few = λ _. (omega (arith, o.waiting), w.few ok);
-              hands = λ _ ks' xs' p q. rw (yes', count)
-                  (ap (with_jobs f (F.used + 1) (F.waiting + 1)) (taken_plan (walk_terms_of f) (free_times_of f) queued n r pks pxs ks xs ks' xs' w ok p q ∙ ap₂ ◌++◌ (sym plan_is) behind));
-              refuses = λ t. absurd (false≢true (sym t));
-              sizes = (w.nodes_size, w.shares_size);
-            }
+    -- A search for the new job finds it.
+    has : has_number h.number (take n (jobs_of pks pxs plans)) ≡ true
+    has = ap (has_number h.number) front ∙ planned_has (walk_terms_of f) (free_times_of f) (waiting_of f) (bare h)
 
-      -- Where a search for the new job ends it is found, and its place is in the plan.
-      pub new_found : (place end : ℕ) → Seeking h.number (jobs_of pks pxs r.jobs) n place end → end ≤ place
-          → (place_of h.number (take n (jobs_of pks pxs r.jobs)) ≡ place) × (place < F.waiting + 1)
-      new_found place end x e =
-          let at = seek_end h.number (jobs_of pks pxs r.jobs) n planned_long place end x e in
-          (at, new_within place at)
+    pub new_found : IsSome (position (λ (j : QueueEntry). j.number == h.number) (take (F.waiting + 1) plans))
+    new_found = go (position (λ (j : QueueEntry). j.number == h.number) (take n plans)) (searched h.number pks pxs n plans _ refl)
+      where
+        go : (s : Option ℕ) → MatchOption s (has_number h.number (take n (jobs_of pks pxs plans)) ≡ false) (λ p. (p < length (take n (jobs_of pks pxs plans))) × (place_of h.number (take n (jobs_of pks pxs plans)) ≡ p)) → IsSome s
+        go (Some p) x = refl
+        go None x = absurd (false≢true (sym x ∙ has))
+
+    pub new_place : (place : ℕ) → position (λ (j : QueueEntry). j.number == h.number) (take (F.waiting + 1) plans) ≡ Some place
+        → place_of h.number (take n (jobs_of pks pxs plans)) ≡ place
+    new_place place e = (searched h.number pks pxs n plans (Some place) e).1
 
 module _ (F : Figures) (ks xs : List ℕ) (o : Offer) where
   -- A question before the walk stops it.
-  pub plans_no : (q : Question) (u n : ℕ) (js : List QueueEntry) (pks pxs : List ℕ) → CellsSized pks pxs → number_of q ≡ offer_asked (farm_of F ks xs) o
-      → Plans F ks xs (offer_said (farm_of F ks xs) o) (offer_farm (farm_of F ks xs) o) (record { granted = false; answer = answer.No q; used = u; waiting = n; jobs = js }) pks pxs
+  pub plans_no : (q : Question) (pks pxs : List ℕ) → number_of q ≡ offer_asked (farm_of F ks xs) o
+      → Plans F ks xs (offer_said (farm_of F ks xs) o) (offer_farm (farm_of F ks xs) o) (Err q) pks pxs
   unfolding offer_said offer_farm
-  plans_no q u n js pks pxs sizes e =
+  plans_no q pks pxs e =
       let no : eqb (offer_asked (farm_of F ks xs) o) 0 ≡ false = ap (λ (k : ℕ). eqb k 0) (sym e) ∙ no_number q in
-      record {
-        says = rw (no, e);
-        granted = rw (no, no);
-        few = λ t. absurd (false≢true t);
-        hands = λ t. absurd (false≢true t);
-        refuses = λ _. rw no;
-        sizes = sizes;
-      }
+      record { says = rw (no, e); granted = rw (no, no); hands = tt; refuses = λ _. rw no }
 
   offer_said_lem : offer_asked (farm_of F ks xs) o ≡ 0 → walk_said (farm_of F ks xs) (new_job (farm_of F ks xs) o) ≡ offer_said (farm_of F ks xs) o
   unfolding offer_said
@@ -266,7 +252,7 @@ module _ (F : Figures) (ks xs : List ℕ) (o : Offer) where
   offer_farm_lem e = let y = eq-eqb (offer_asked (farm_of F ks xs) o) 0 e in rw y
 
   -- Past those, the walk with the new entry decides it.
-  pub plans_walked : (h : QueueEntry) (d : Decision) (pks pxs : List ℕ) → offer_asked (farm_of F ks xs) o ≡ 0 → bare h ≡ bared (new_job (farm_of F ks xs) o)
+  pub plans_walked : (h : QueueEntry) (d : Result Decision Question) (pks pxs : List ℕ) → offer_asked (farm_of F ks xs) o ≡ 0 → bare h ≡ bared (new_job (farm_of F ks xs) o)
       → Plans F ks xs (walk_said (farm_of F ks xs) (bare h)) (walk_farm (farm_of F ks xs) (bare h)) d pks pxs → Plans F ks xs (offer_said (farm_of F ks xs) o) (offer_farm (farm_of F ks xs) o) d pks pxs
   plans_walked h d pks pxs e new x =
       let f = farm_of F ks xs in

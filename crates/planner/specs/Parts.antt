@@ -1,20 +1,21 @@
--- A farm in its parts, the figures by value and the rows of cells lent: what the functions that are given them so
--- promise.
-use Rattle.std.specs.Prelude.{◌≡◌, refl, List, [], ◌++◌, Bool, true, false, cond, ℕ, ◌-◌, ◌≤◌, eqb, length, take, replicate}
-use Rattle.std.proofs.Common.{sym, ap, ◌∙◌, arith}
-use Rattle.std.proofs.lemmas.Bool.{false≢true}
+-- A farm in its parts, the figures and the rows of cells beside them: what a decision on an offer comes to.
+use Rattle.std.specs.Prelude.{◌≡◌, refl, List, [], ◌++◌, Bool, false, ℕ, ◌-◌, ◌≤◌, eqb, length, take, replicate, Result, Ok, Err, is_ok, IsErr, IfOk}
+use Rattle.std.proofs.Common.{ap, sym, ◌∙◌, arith, length-take-le, eqb-true}
 use Rattle.lists.specs.Laws.{All}
-use Rattle.lists.specs.Places.{each_length}
+use Rattle.lists.specs.Places.{each_length, each_take}
 use Rattle.lists.specs.Rows.{Alike}
 use Rattle.limits.specs.declared.FarmCosts.{FarmCosts}
+use Rattle.walk.specs.declared.Job.{Job}
 use Rattle.walk.specs.declared.QueueEntry.{QueueEntry}
-use Rattle.walk.specs.View.{no_entry, job_at, Short, use_of, jobs_sized, empty_jobs}
+use Rattle.walk.specs.View.{no_entry, job_at, jobs_of, Short, use_of, jobs_sized, empty_jobs}
 use Rattle.planner.specs.declared.Figures.{Figures}
 use Rattle.planner.specs.declared.Opening.{Opening}
 use Rattle.planner.specs.declared.Decision.{Decision}
-use Rattle.planner.specs.Model.{Farm, farm_of, Sized}
+use Rattle.planner.specs.declared.Farm as stored
+use Rattle.answers.specs.declared.Question.{Question}
+use Rattle.planner.specs.Model.{Farm, farm_of, waiting_of, Sized}
 use Rattle.planner.specs.Changes.{with_jobs}
-use Rattle.planner.specs.Calls.{Said, said, new_farm}
+use Rattle.planner.specs.Calls.{Said, said, told, refused, number_of, new_farm, Replies}
 
 -- ---- Figures
 
@@ -56,6 +57,12 @@ parts_sized f ks xs z c = record {
   each = jobs_sized ks xs f.jobs c.0 c.1 (omega (arith, z.jobs));
 }
 
+-- The waiting entries put together with their cells are the waiting jobs.
+pub waiting_front : (f : Figures) (ks xs : List ℕ) (js : List Job) → f.waiting ≤ length f.jobs
+    → take (length (take f.waiting f.jobs)) js ≡ jobs_of ks xs (take f.waiting f.jobs) → take f.waiting js ≡ waiting_of (farm_of f ks xs)
+waiting_front f ks xs js h e =
+    ap (λ (n : ℕ). take n js) (sym (length-take-le f.waiting f.jobs h)) ∙ e ∙ sym (each_take (job_at ks xs) 0 f.waiting f.jobs)
+
 -- ---- Opening
 
 -- the figures of a farm on which nothing has happened
@@ -89,48 +96,39 @@ pub record OpensFigures (r : Opening) (a : Said) (next : Farm) : Type 0 where
 
 -- ---- Calls that decide about the waiting jobs
 
--- the figures with a decision carried out
-abbrev pub decided_figures : Figures → Decision → Figures
-decided_figures f d = cond d.granted (with_entries f d.used d.waiting d.jobs) f
+-- what a decision says
+abbrev pub decision_said : Result Decision Question → Said
+decision_said (Ok d) = told d.answer
+decision_said (Err q) = refused (number_of q)
 
--- a decision on figures and rows, and the rows that it leaves: it says so, and carried out it is this farm; a refusal
--- leaves the rows as they were
-pub record Decides (f : Figures) (ks xs : List ℕ) (s : Said) (next : Farm) (d : Decision) (ks' xs' : List ℕ) : Type 0 where
-  pub says : said d.answer ≡ s
-  pub granted : d.granted ≡ eqb s.number 0
-  pub hands : farm_of (decided_figures f d) ks' xs' ≡ next
-  pub same : d.granted ≡ false → (ks' ≡ ks) × (xs' ≡ xs)
-  pub sizes : CellsSized ks' xs'
+-- what the rows of a plan hold for the jobs of a granted decision, taken over as far as they are in use: it is this farm
+pub record PlansJobs (f : Figures) (ks xs : List ℕ) (next : Farm) (pks pxs : List ℕ) (d : Decision) : Type 0 where
+  pub few : (d.waiting ≤ 128) × All Short (take d.waiting d.jobs)
+  pub hands : (ks' xs' : List ℕ) → Alike 64 (use_of d.jobs) d.waiting ks pks ks' → Alike 64 (use_of d.jobs) d.waiting xs pxs xs'
+      → farm_of (with_entries f d.used d.waiting d.jobs) ks' xs' ≡ next
 
 -- a decision on an offer, with the rows of the plan beside: it says so; where it is granted, and the rows of the plan
 -- are taken over as far as they are in use, it is this farm; where it is not, this farm is the one that was given
-pub record Plans (f : Figures) (ks xs : List ℕ) (s : Said) (next : Farm) (d : Decision) (pks pxs : List ℕ) : Type 0 where
-  pub says : said d.answer ≡ s
-  pub granted : d.granted ≡ eqb s.number 0
-  pub few : d.granted ≡ true → (d.waiting ≤ 128) × All Short (take d.waiting d.jobs)
-  pub hands : d.granted ≡ true → (ks' xs' : List ℕ) → Alike 64 (use_of d.jobs) d.waiting ks pks ks'
-      → Alike 64 (use_of d.jobs) d.waiting xs pxs xs' → farm_of (decided_figures f d) ks' xs' ≡ next
-  pub refuses : d.granted ≡ false → farm_of f ks xs ≡ next
-  pub sizes : CellsSized pks pxs
+pub record Plans (f : Figures) (ks xs : List ℕ) (s : Said) (next : Farm) (d : Result Decision Question) (pks pxs : List ℕ) : Type 0 where
+  pub says : decision_said d ≡ s
+  pub granted : is_ok d ≡ eqb s.number 0
+  pub hands : IfOk d (PlansJobs f ks xs next pks pxs)
+  pub refuses : IsErr d → farm_of f ks xs ≡ next
 
-module _ {f : Figures} {ks xs : List ℕ} {s : Said} {next : Farm} {d : Decision} {pks pxs : List ℕ} (p : Plans f ks xs s next d pks pxs) where
-  -- With the rows of the plan taken over it is decided,
-  pub plans_taken : {ks' xs' : List ℕ} → CellsSized ks xs → d.granted ≡ true → Alike 64 (use_of d.jobs) d.waiting ks pks ks' → Alike 64 (use_of d.jobs) d.waiting xs pxs xs'
-      → Decides f ks xs s next d ks' xs'
-  plans_taken {ks'} {xs'} z g a b = record {
-    says = p.says;
-    granted = p.granted;
-    hands = p.hands g ks' xs' a b;
-    same = λ e. absurd (false≢true (sym e ∙ g));
-    sizes = (a.size ∙ z.0, b.size ∙ z.1);
-  }
+-- With the rows of the plan taken over and the decision stored it is the reply,
+pub plans_taken : {f : stored.Farm} {s : Said} {next : Farm} {d : Decision} {pks pxs ks xs : List ℕ} → Plans f.figures f.cells.nodes f.cells.shares s next (Ok d) pks pxs
+    → Alike 64 (use_of d.jobs) d.waiting f.cells.nodes pks ks → Alike 64 (use_of d.jobs) d.waiting f.cells.shares pxs xs
+    → Replies f (record {
+      answer = Ok d.answer;
+      farm = record { figures = with_entries f.figures d.used d.waiting d.jobs; cells = record { nodes = ks; shares = xs } };
+    }) s next
+plans_taken {s = s} {ks = ks} {xs = xs} p a b = record {
+  says = p.says;
+  hands = p.hands.hands ks xs a b;
+  same = λ h. absurd (h (eqb-true s.number 0 (sym p.granted)));
+}
 
-  -- and refused where no row is.
-  pub plans_refused : CellsSized ks xs → d.granted ≡ false → Decides f ks xs s next d ks xs
-  plans_refused z e = record {
-    says = p.says;
-    granted = p.granted;
-    hands = ap (λ (b : Bool). farm_of (cond b (with_entries f d.used d.waiting d.jobs) f) ks xs) e ∙ p.refuses e;
-    same = λ _. (refl, refl);
-    sizes = z;
-  }
+-- and a refusal hands back the very farm.
+pub plans_refused : {f : stored.Farm} {s : Said} {next : Farm} {q : Question} {pks pxs : List ℕ} → Plans f.figures f.cells.nodes f.cells.shares s next (Err q) pks pxs
+    → Replies f (record { answer = Err q; farm = f }) s next
+plans_refused p = record { says = p.says; hands = p.refuses refl; same = λ _. refl }

@@ -1,190 +1,101 @@
 // An offer: its questions, the walk of the waiting jobs and the new one, and what it is told.
 ghost use Rattle.std.specs.Prelude.{true, ◌≡◌};
 ghost use Rattle.walk.specs.View.{bare};
-ghost use Rattle.planner.specs.Model.{farm_of, meant};
+ghost use Rattle.planner.specs.Model.{meant};
 ghost use Rattle.planner.specs.Passes.{passes_of};
 ghost use Rattle.planner.specs.Calls.{Replies, offer_said, offer_farm};
-ghost use Rattle.planner.specs.Parts.{CellsSized, Decides, Plans};
+ghost use Rattle.planner.specs.Parts.{Plans};
 ghost use Rattle.planner.specs.CallsSteps.{Offered};
 ghost use Rattle.planner.specs.OfferSteps.{walk_said, walk_farm};
 
-use crate::calls::{decided, refused};
+use crate::calls::refused;
 use crate::passing::passes;
-use crate::{Decision, Farm, Figures, Reply};
-use answers::{Answer, Asked, Offer, Question, ask, compute_or, yes};
-use queue::{new_job, rows_taken};
-use walk::{FreeTimes, QueueEntry, WalkTerms, job_at, walked};
+use crate::{Decision, Farm, Reply};
+use answers::{Answer, Offer, Question, ask, compute_or, yes};
+use booking::Cells;
+use queue::{new_job, place_of, rows_taken};
+use walk::{QueueEntry, job_at, walked};
 
 // Question 8: whether the walk books every waiting job and the new one, and the jobs with their bookings, whose cells
-// are in the rows of the plan. The job of the new number is looked for here: a function that took the jobs would copy
-// them.
-fn planned<'a>(
-    figures: Figures,
-    job: QueueEntry,
-    nodes: &'a [u8; 8192],
-    shares: &'a [u32; 8192],
-    plan_nodes: &mut [u8; 8192],
-    plan_shares: &mut [u32; 8192],
-) -> Decision
-    requires { CellsSized plan_nodes.old plan_shares.old × Offered (farm_of figures nodes.now shares.now) (bare job) }
-    ensures { Plans figures nodes.now shares.now (walk_said (farm_of figures nodes.now shares.now) (bare job)) (walk_farm (farm_of figures nodes.now shares.now) (bare job)) result plan_nodes.new plan_shares.new }
+// are in the rows of the plan.
+fn planned(farm: &Farm, job: QueueEntry, plan: &mut Cells) -> Result<Decision, Question>
+    requires { Offered (meant farm.now) (bare job) }
+    ensures { Plans farm.now.figures farm.now.cells.nodes farm.now.cells.shares (walk_said (meant farm.now) (bare job)) (walk_farm (meant farm.now) (bare job)) result plan.new.nodes plan.new.shares }
 {
-    let costs = figures.costs;
-    let terms = WalkTerms {
-        costs,
-        nodes: figures.nodes,
-        clock: figures.clock,
-    };
-    let free = figures.free;
-    let times = FreeTimes {
-        link: figures.link,
-        free,
-    };
-    let used = figures.used;
-    let waiting = figures.waiting;
-    let count = waiting + 1;
-    let old = figures.jobs;
-    let plan = walked(
-        terms,
-        times,
-        old,
-        count,
+    farm.whole();
+    let figures = &farm.figures;
+    let mut queued = figures.jobs;
+    queued[figures.waiting] = job;
+    let waiting = figures.waiting + 1;
+    let Some(jobs) = walked(
+        figures.walk_terms(),
+        figures.free_times(),
+        &queued,
         waiting,
-        job,
-        plan_nodes,
-        plan_shares,
-    );
-    let jobs = plan.jobs;
-    if !plan.ok {
-        return Decision {
-            granted: false,
-            answer: Answer::No(Question::Walk),
-            used,
-            waiting,
-            jobs,
-        };
-    }
-    let mut place = 0;
-    let mut end = count;
-    while place < end {
-        let other = jobs[place];
-        if other.number == job.number {
-            end = place;
-        } else {
-            place += 1;
-        }
-    }
-    let told = job_at(jobs[place], plan_nodes, plan_shares, place);
-    Decision {
-        granted: true,
-        answer: yes(costs, told),
-        used: used + 1,
-        waiting: count,
+        plan,
+    ) else {
+        return Err(Question::Walk);
+    };
+    let place = place_of(&jobs[..waiting], job.number).unwrap();
+    let told = job_at(jobs[place], plan, place);
+    Ok(Decision {
+        answer: yes(figures.costs, &told),
+        used: figures.used + 1,
+        waiting,
         jobs,
-    }
+    })
 }
 
 // What an offer to a farm that passes question 11 is told and, where it is accepted, the jobs that wait then, the cells
-// of their bookings in the rows of the plan: nothing of the farm is changed, so that it serves a quote too. No cell of
-// the farm is read.
-pub fn decide_offer<'a>(
-    figures: Figures,
-    offer: Offer,
-    nodes: &'a [u8; 8192],
-    shares: &'a [u32; 8192],
-    plan_nodes: &mut [u8; 8192],
-    plan_shares: &mut [u32; 8192],
-) -> Decision
-    requires { CellsSized plan_nodes.old plan_shares.old × (passes_of (farm_of figures nodes.now shares.now) ≡ true) }
-    ensures { Plans figures nodes.now shares.now (offer_said (farm_of figures nodes.now shares.now) offer) (offer_farm (farm_of figures nodes.now shares.now) offer) result plan_nodes.new plan_shares.new }
+// of their bookings in the rows of the plan: nothing of the farm is changed, so that it serves a quote too.
+pub fn decide_offer(farm: &Farm, offer: Offer, plan: &mut Cells) -> Result<Decision, Question>
+    requires { passes_of (meant farm.now) ≡ true }
+    ensures { Plans farm.now.figures farm.now.cells.nodes farm.now.cells.shares (offer_said (meant farm.now) offer) (offer_farm (meant farm.now) offer) result plan.new.nodes plan.new.shares }
 {
-    let jobs = figures.jobs;
-    let costs = figures.costs;
-    let cost = offer.compute;
-    let compute = compute_or(costs.compute, cost);
-    let first = ask(
+    let figures = &farm.figures;
+    let compute = compute_or(figures.costs.compute, offer.compute);
+    ask(
         figures.shows,
         figures.clock,
         figures.waiting,
         figures.used,
         offer,
         compute,
+    )?;
+    let job = new_job(
+        figures.used + 1,
+        offer.show,
+        offer.size as u32,
+        compute as u32,
+        offer.deadline,
     );
-    match first {
-        Asked::No(question) => Decision {
-            granted: false,
-            answer: Answer::No(question),
-            used: figures.used,
-            waiting: figures.waiting,
-            jobs,
-        },
-        Asked::Yes => planned(
-            figures,
-            new_job(
-                figures.used + 1,
-                offer.show,
-                offer.size as u32,
-                compute as u32,
-                offer.deadline,
-            ),
-            nodes,
-            shares,
-            plan_nodes,
-            plan_shares,
-        ),
-    }
+    planned(farm, job, plan)
 }
 
-// An offer to a farm that passes question 11. Where it is accepted the rows of the plan that are in use become the
-// farm's.
-pub fn offer_unchecked(
-    figures: Figures,
-    offer: Offer,
-    nodes: &mut [u8; 8192],
-    shares: &mut [u32; 8192],
-    plan_nodes: &mut [u8; 8192],
-    plan_shares: &mut [u32; 8192],
-) -> Decision
-    requires { CellsSized nodes.old shares.old × CellsSized plan_nodes.old plan_shares.old × (passes_of (farm_of figures nodes.old shares.old) ≡ true) }
-    ensures { Decides figures nodes.old shares.old (offer_said (farm_of figures nodes.old shares.old) offer) (offer_farm (farm_of figures nodes.old shares.old) offer) result nodes.new shares.new × CellsSized plan_nodes.new plan_shares.new }
+// An offer to a farm that passes question 11. Where it is accepted its jobs wait from now on, and the rows of the plan
+// that are in use become the farm's.
+pub fn offer_unchecked(farm: &mut Farm, offer: Offer, plan: &mut Cells) -> Answer
+    requires { passes_of (meant farm.old) ≡ true }
+    ensures { Replies farm.old (record { answer = result; farm = farm.new }) (offer_said (meant farm.old) offer) (offer_farm (meant farm.old) offer) }
 {
-    let decision = decide_offer(figures, offer, nodes, shares, plan_nodes, plan_shares);
-    let granted = decision.granted;
-    if granted {
-        let jobs = decision.jobs;
-        rows_taken(
-            nodes,
-            shares,
-            plan_nodes,
-            plan_shares,
-            jobs,
-            decision.waiting,
-        );
-    }
-    decision
+    let decision = decide_offer(farm, offer, plan)?;
+    rows_taken(&mut farm.cells, plan, &decision.jobs[..decision.waiting]);
+    farm.figures.used = decision.used;
+    farm.figures.waiting = decision.waiting;
+    farm.figures.jobs = decision.jobs;
+    Ok(decision.answer)
 }
 
 impl Farm {
     // An offer: questions 11, 4, 5, 2, 6, 7 and 8 in that order.
-    pub fn offer(self, offer: Offer) -> Reply
+    pub fn offer(mut self, offer: Offer) -> Reply
         ensures { Replies self result (offer_said (meant self) offer) (offer_farm (meant self) offer) }
     {
-        if !passes(self) {
+        if !passes(&self) {
             return refused(self, Question::Farm);
         }
-        let figures = self.figures;
-        let mut nodes = self.nodes;
-        let mut shares = self.shares;
-        let mut plan_nodes = [0u8; 8192];
-        let mut plan_shares = [0u32; 8192];
-        let decision = offer_unchecked(
-            figures,
-            offer,
-            &mut nodes,
-            &mut shares,
-            &mut plan_nodes,
-            &mut plan_shares,
-        );
-        decided(figures, decision, nodes, shares)
+        let mut plan = Cells::empty();
+        let answer = offer_unchecked(&mut self, offer, &mut plan);
+        Reply { answer, farm: self }
     }
 }

@@ -1,7 +1,12 @@
 -- A number in base ten: its value, how many digits it has, and that it has no leading zero. The example line of document 01.
-use Rattle.std.specs.Prelude.{◌≡◌, refl, Bool, true, false, cond, List, [], ◌∷◌, ◌++◌, ℕ, zero, suc, ◌+◌, ◌-◌, ◌*◌, ◌/◌, ◌%◌, ◌^◌, ◌≤◌, ◌<◌, leb, length, get_or}
-use Rattle.std.proofs.Common.{sym, ap, ◌∙◌, subst, pow-suc, div-add-mod', mod-lt, add-zero, le-div_iff_mul-le, div-lt_iff_lt-mul, arith, leb-true, leb-false, length-append}
+use Rattle.std.specs.Prelude.{◌≡◌, refl, Bool, true, false, cond, List, [], ◌∷◌, ◌++◌, ℕ, zero, suc, ◌+◌, ◌-◌, ◌*◌, ◌/◌, ◌%◌, ◌^◌, ◌≤◌, ◌<◌, leb, max, length, get_or}
+use Rattle.std.proofs.Common.{sym, ap, ◌∙◌, subst, add-one, pow-suc, div-add-mod', mod-lt, add-zero, rules, le-div_iff_mul-le, div-lt_iff_lt-mul, arith, leb-true, leb-false, length-append}
 use Rattle.std.proofs.Math.ListN.{get_or-append}
+use Rattle.std.proofs.lemmas.Fmt.{decimal-digits_value, length-decimal-le}
+use Rattle.std.proofs.lemmas.Str.Parse.{IsNumeralModel, numerals_by_fold, digits_value_short}
+use Rattle.std.proofs.Math.Nat.{one-le-pow}
+use Rattle.std.proofs.Math.Decide.{dec_le}
+use Rattle.std.specs.Fmt as std
 use Rattle.lists.specs.Laws.{All, all_join}
 use Rattle.text.specs.Model.{value_from, value}
 use Rattle.printing.specs.declared.Word.TheVariants as word
@@ -130,6 +135,38 @@ decimal_leads n p h =
     let r : 10 ^ (0 + reached n (tens 1 19)) ≤ n = reached_below n 0 19 p in
     let e : 0 + reached n (tens 1 19) ≡ reached n powers = ap (λ (ps : List ℕ). 0 + reached n ps) (sym powers_tens) ∙ omega arith in
     digits_lead (reached n powers) n (subst (λ (m : ℕ). 10 ^ m ≤ n) e r) (decimal_holds n h)
+
+-- Texts of digits and their value, as the library knows them.
+numerals : IsNumeralModel (All (λ (d : ℕ). (48 ≤ d) × (d ≤ 57))) value
+unfolding value_from
+numerals = numerals_by_fold _ (search rules) value_from (search rules)
+
+-- The library writes a number below 2⁶⁴ as its decimal.
+pub decimal_std : (n : ℕ) → n < 2 ^ 64 → std.decimal n ≡ decimal n
+decimal_std n h =
+    let v = decimal_value n h in
+    rw v at (decimal-digits_value numerals (decimal n) (decimal_digits n) (decimal_some n) (one_zero n h) (rw v h))
+  where
+    one_zero : (n : ℕ) → n < 2 ^ 64 → get_or (decimal n) 0 0 ≡ 48 → length (decimal n) ≡ 1
+    one_zero zero h e = ap length decimal_zero
+    one_zero (suc n) h e = absurd (omega (arith, e, decimal_leads (suc n) (omega arith) h))
+
+-- It has one digit more than the greatest power of ten that the number, or 1, reaches.
+pub std_length : (n m k : ℕ) → n < 2 ^ 64 → m ≡ max n 1 → 10 ^ k ≤ m → m < 10 * 10 ^ k → length (std.decimal n) ≡ k + 1
+std_length n m k h e low high = ap length (decimal_std n h) ∙ omega (arith, fewer, more)
+  where
+    more : length (decimal n) ≤ k + 1
+    more = subst (λ (ds : List ℕ). length ds ≤ k + 1) (decimal_std n h)
+        (length-decimal-le (k + 1) n (omega arith) (rw (add-one k, pow-suc 10 k) (omega (arith, e, high))) h)
+
+    few : (j : ℕ) → length (decimal n) ≤ j → 10 ^ j ≤ m → ⊥
+    few zero d l = omega (arith, decimal_some n)
+    few (suc j) d l =
+        let v : n < 10 ^ suc j = rw (decimal_value n h) at (digits_value_short numerals (decimal n) (suc j) (decimal_digits n) d) in
+        omega (arith, e, v, l, pow-suc 10 j, one-le-pow j 10 (omega arith))
+
+    fewer : k + 1 ≤ length (decimal n)
+    fewer = elim (dec_le (length (decimal n)) k) [ no d ↦ omega arith | yes d ↦ absurd (few k d low) ]
 
 -- The line of the word `yes` and the numbers 1, 0, 18 and 2, with a tab before each number and a newline at the end.
 pub example_line : line_text word.Yes (1 ∷ 0 ∷ 18 ∷ 2 ∷ []) ≡ 121 ∷ 101 ∷ 115 ∷ 9 ∷ 49 ∷ 9 ∷ 48 ∷ 9 ∷ 49 ∷ 56 ∷ 9 ∷ 50 ∷ 10 ∷ []

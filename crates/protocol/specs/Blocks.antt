@@ -1,20 +1,20 @@
 -- A block, line by line, and the end of the input, for src/blocks.rt.
-use Rattle.std.specs.Prelude.{◌≡◌, refl, List, [], ◌∷◌, ◌++◌, Bool, true, false, cond, ℕ, zero, suc, ◌+◌, ◌-◌, ◌≤◌, ◌<◌, leb, length, take}
-use Rattle.std.proofs.Common.{ap, ap₂, sym, subst, ◌∙◌, append-nil, le-leb, leb-true, length-take-le}
+use Rattle.std.specs.Prelude.{◌≡◌, refl, List, [], ◌∷◌, ◌++◌, Bool, true, false, cond, ℕ, zero, suc, ◌+◌, ◌-◌, ◌≤◌, ◌<◌, leb, length}
+use Rattle.std.proofs.Common.{ap, ap₂, sym, subst, ◌∙◌, append-nil, le-leb}
 use native.Mathlib.Omega.{arith}
-use Rattle.std.proofs.lemmas.Bool.{lt-leb}
-use Rattle.planner.specs.declared.Figures.{Figures}
-use Rattle.planner.specs.Model.{Farm, farm_of}
+use Rattle.std.proofs.lemmas.Bool.{lt-leb, false≢true}
+use Rattle.planner.specs.Model.{Farm}
 use Rattle.text.specs.Model.{newline}
 use Rattle.text.specs.Writing.{WroteWithin, wrote_none, wrote_same, wrote_join, wrote_length, within_same}
 use Rattle.search.specs.Model.{this, next_place}
 use Rattle.lines.specs.declared.Rest.{Rest}
 use Rattle.protocol.specs.declared.Progress.{Progress}
-use Rattle.lines.specs.Model.{Answered, answered_text, Pending, part, long, ended, Fed, feed, at_end, longest}
+use Rattle.protocol.specs.declared.Session.{Session}
+use Rattle.lines.specs.Model.{Answered, answered_text, Pending, part, long, ended, Fed, feed, at_end}
 use Rattle.lines.specs.Feeding.{stretch, kept_all, fed_line, fed_rest}
-use Rattle.lines.specs.Rows.{pending_of}
+use Rattle.lines.specs.Rows.{pending_of, none_pending}
 use Rattle.lines.specs.AnswerLines.{largest}
-use Rattle.protocol.specs.Promises.{Took, end_text}
+use Rattle.protocol.specs.Promises.{day_farm, Took, end_text}
 use Rattle.protocol.specs.Reachable.{Reachable, feed_reachable}
 
 module _ (f : Farm) (r : Rest) (block : List ℕ) (from : ℕ) (entry : List ℕ) where
@@ -80,68 +80,59 @@ module _ {f : Farm} {r : Rest} {block : List ℕ} {from : ℕ} {entry : List ℕ
           size = wrote_length all k;
         }
 
--- Where the block ends, or there is no room, the farm is that of the figures and the rows.
-module _ {f : Farm} {r : Rest} {block : List ℕ} {from : ℕ} {entry : List ℕ} (figures : Figures) (ks xs : List ℕ) {rest : Rest} {next at : ℕ} {out : List ℕ}
-    (g : DayAt f r block from entry (farm_of figures ks xs) rest next at out) where
-  pub day_took : (next < length block → length entry < at + largest)
-      → Took f (pending_of r) block from entry out (record { session = record { figures = figures; rest = rest }; next = next; written = at }) ks xs
-  day_took h = record {
-    onward = g.onward;
-    inside = g.inside;
-    stops = h;
-    farm = sym g.farms;
-    pending = sym g.pending;
-    wrote = g.wrote;
-  }
+    -- where no newline is left the bytes are kept
+    pub day_rest : {line : Rest} → pending_of line ≡ line_to → end ≡ length block → DayAt f r block from entry farm line end at out
+    day_rest l h =
+        let x = fed_rest f (pending_of r) block from next end so_far g.onward e refl h in
+        record {
+          onward = omega (arith, g.onward);
+          inside = λ k. omega arith;
+          farms = ap (λ (y : Fed). y.farm) x ∙ g.farms;
+          pending = ap (λ (y : Fed). y.pending) x ∙ kept_line ∙ sym l;
+          wrote = within_same (sym (ap (λ (y : Fed). y.text) x ∙ append-nil so_far.text)) g.wrote;
+          size = g.size;
+        }
 
-  -- So it is where no newline is left.
-  pub day_rest : {end : ℕ} (e : end ≡ next_place (this newline) block next) (line : Rest) → pending_of line ≡ kept_all (pending_of rest) (stretch next end block) → end ≡ length block
-      → Took f (pending_of r) block from entry out (record { session = record { figures = figures; rest = line }; next = end; written = at }) ks xs
-  day_rest {end} e line l h =
-      let so = up_to f r block from entry next in
-      let x = fed_rest f (pending_of r) block from next end so g.onward e refl h in
-      record {
-        onward = omega (arith, g.onward);
-        inside = λ k. omega arith;
-        stops = λ k. absurd (omega arith);
-        farm = sym (ap (λ (y : Fed). y.farm) x ∙ g.farms);
-        pending = sym (ap (λ (y : Fed). y.pending) x ∙ kept_line g e ∙ sym l);
-        wrote = within_same (sym (ap (λ (y : Fed). y.text) x ∙ append-nil so.text)) g.wrote;
-      }
+-- Where the block ends, or there is no room, the day is that of feeding it so far.
+pub day_took : {f : Farm} {r : Rest} {block : List ℕ} {from : ℕ} {entry : List ℕ} (t : Session) {next at : ℕ} {out : List ℕ}
+    → DayAt f r block from entry (day_farm t) t.rest next at out → (next < length block → length entry < at + largest)
+    → Took f (pending_of r) block from entry out (record { next = next; written = at }) t
+day_took t g h = record {
+  onward = g.onward;
+  inside = g.inside;
+  stops = h;
+  farm = sym g.farms;
+  pending = sym g.pending;
+  wrote = g.wrote;
+}
 
 -- ---- The end of the input
 
 pub end_small : (f : Farm) (p : Pending) (room : ℕ) → room < largest → end_text f p room ≡ []
 end_small f p room h = rw (lt-leb largest room h)
 
-pub end_empty : (f : Farm) (r : Rest) (room : ℕ) → r.fill ≡ 0 → end_text f (pending_of r) room ≡ []
-end_empty f r room e = go (leb largest room)
+pub end_empty : (f : Farm) (p : Pending) (room : ℕ) → none_pending p ≡ true → end_text f p room ≡ []
+end_empty f long room e = absurd (false≢true e)
+end_empty f (part (b ∷ l)) room e = absurd (false≢true e)
+end_empty f (part []) room e = go (leb largest room)
   where
-    none : at_end f (pending_of r) ≡ []
-    none = ap (λ (n : ℕ). at_end f (cond (leb n longest) (part (take n r.bytes)) long)) e
-
-    go : (b : Bool) → cond b (at_end f (pending_of r)) [] ≡ []
-    go true = none
+    go : (b : Bool) → cond b (at_end f (part [])) [] ≡ []
+    go true = refl
     go false = refl
 
-end_part : (f : Farm) (l : List ℕ) → 1 ≤ length l → at_end f (part l) ≡ answered_text (ended f (part l))
-end_part f [] h = absurd (omega arith)
-end_part f (b ∷ l) h = refl
-
-pub end_line : (f : Farm) (r : Rest) (room : ℕ) → largest ≤ room → 1 ≤ r.fill → length r.bytes ≡ longest
-    → end_text f (pending_of r) room ≡ answered_text (ended f (pending_of r))
-end_line f r room h k n = rw (le-leb largest room h) (go (leb r.fill longest) refl)
+pub end_line : (f : Farm) (p : Pending) (room : ℕ) → largest ≤ room → none_pending p ≡ false → end_text f p room ≡ answered_text (ended f p)
+end_line f p room h e = rw (le-leb largest room h) (go p e)
   where
-    go : (b : Bool) → leb r.fill longest ≡ b
-        → at_end f (cond b (part (take r.fill r.bytes)) long) ≡ answered_text (ended f (cond b (part (take r.fill r.bytes)) long))
-    go true e = end_part f (take r.fill r.bytes) (omega (arith, leb-true r.fill longest e, length-take-le r.fill r.bytes (omega (arith, leb-true r.fill longest e))))
-    go false e = refl
+    go : (p : Pending) → none_pending p ≡ false → at_end f p ≡ answered_text (ended f p)
+    go (part []) e = absurd (false≢true (sym e))
+    go (part (b ∷ l)) e = refl
+    go long e = refl
 
 -- A newline ends the line that is pending.
-pub end_took : (f : Farm) (p : Pending) (entry exit : List ℕ) (r : Progress) (ks xs : List ℕ) → Took f p (newline ∷ []) 0 entry exit r ks xs → largest ≤ length entry
+pub end_took : (f : Farm) (p : Pending) (entry exit : List ℕ) (r : Progress) (day : Session) → Took f p (newline ∷ []) 0 entry exit r day → largest ≤ length entry
     → WroteWithin (length entry) (answered_text (ended f p)) 0 entry exit r.written
 unfolding feed
-end_took f p entry exit r ks xs t h = go r.next refl
+end_took f p entry exit r day t h = go r.next refl
   where
     at : (n : ℕ) → r.next ≡ n → WroteWithin (length entry) (feed f p (stretch 0 n (newline ∷ []))).text 0 entry exit r.written
     at n e = subst (λ (k : ℕ). WroteWithin (length entry) (feed f p (stretch 0 k (newline ∷ []))).text 0 entry exit r.written) e t.wrote

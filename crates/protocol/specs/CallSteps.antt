@@ -1,5 +1,5 @@
 -- What commands and queries print and leave, a clock move's answer and the records that it is lent, for src/blocks.rt.
-use Rattle.std.specs.Prelude.{◌≡◌, refl, List, [], ◌++◌, map, Bool, true, false, cond, ℕ, ◌+◌, ◌≤◌, ◌<◌, length, take}
+use Rattle.std.specs.Prelude.{◌≡◌, refl, List, [], ◌++◌, map, ℕ, ◌+◌, ◌≤◌, ◌<◌, length, take, Result, Ok}
 use Rattle.std.proofs.Common.{ap, ap₂, sym, subst, ◌∙◌, arith, length-append}
 use Rattle.std.proofs.lemmas.List.{length-map}
 use Rattle.lists.specs.Laws.{All}
@@ -10,15 +10,15 @@ use Rattle.walk.specs.Model.{in_order}
 use Rattle.walk.specs.Chunks.{Sendable}
 use Rattle.timetable.specs.Model.{chunk_row, lines_of_all}
 use Rattle.timetable.specs.BeginSteps.{chunks}
-use Rattle.planner.specs.declared.Figures.{Figures}
+use Rattle.answers.specs.declared.Granted.{Granted}
+use Rattle.answers.specs.declared.Question.{Question}
 use Rattle.planner.specs.declared.Move.{Move}
-use Rattle.planner.specs.declared.Decision.{Decision}
-use Rattle.planner.specs.Model.{Farm, farm_of, Sized}
-use Rattle.planner.specs.Parts.{CellsSized, with_entries, Decides}
+use Rattle.planner.specs.Model.{Farm, Sized}
 use Rattle.planner.specs.Call.{offer, quote, withdraw, account, reply, handed}
-use Rattle.planner.specs.Calls.{Said, said}
+use Rattle.planner.specs.Calls.{Said, said, told}
+use Rattle.planner.specs.Parts.{CellsSized}
 use Rattle.planner.specs.Clock.{move_said, move_lines}
-use Rattle.planner.specs.ClockSteps.{Begins, MoveDecides, begins_few, begins_places, begins_sends, begins_lines, begins_count, move_taken}
+use Rattle.planner.specs.ClockSteps.{Begins, MoveDecides, begins_places, begins_sends, begins_lines, begins_count, move_taken}
 use Rattle.lines.specs.declared.Command.{Command}
 use Rattle.lines.specs.declared.Command.TheVariants as command
 use Rattle.lines.specs.declared.Query.{Query}
@@ -43,22 +43,20 @@ pub query_keeps : (f : Farm) (q : Query) → handed f (query_call q) ≡ f
 query_keeps f (query.Quote o) = refl
 query_keeps f (query.Account n) = refl
 
--- The farm with a decision carried out, where it is granted and where it is not.
-module _ {f : Figures} {ks xs : List ℕ} {s : Said} {next : Farm} {d : Decision} {ks' xs' : List ℕ} (x : Decides f ks xs s next d ks' xs') where
-  pub decided_granted : d.granted ≡ true → farm_of (with_entries f d.used d.waiting d.jobs) ks' xs' ≡ next
-  decided_granted e = ap (λ (b : Bool). farm_of (cond b (with_entries f d.used d.waiting d.jobs) f) ks' xs') (sym e) ∙ x.hands
+-- Whatever way a query was asked, it is told what it asks,
+pub query_told : (f : Farm) {q case : Query} {told answer : Result Granted Question} → q ≡ case → told ≡ answer
+    → said answer ≡ reply f (query_call case) → said told ≡ reply f (query_call q)
+query_told f is same e = ap said same ∙ e ∙ ap (λ (x : Query). reply f (query_call x)) (sym is)
 
-  pub decided_refused : d.granted ≡ false → farm_of f ks' xs' ≡ next
-  decided_refused e = ap (λ (b : Bool). farm_of (cond b (with_entries f d.used d.waiting d.jobs) f) ks' xs') (sym e) ∙ x.hands
+-- what holds of a command, what it comes to and the cells holds of the same,
+pub command_decided : {A : Type 0} (P : Command → A → List ℕ → List ℕ → Type 0) {k case : Command} {d decision : A} {ks xs ks' xs' : List ℕ}
+    → k ≡ case → d ≡ decision → ks ≡ ks' → xs ≡ xs' → P case decision ks' xs' → P k d ks xs
+command_decided P {k} {case} {d} {decision} {ks} {xs} {ks'} {xs'} is p q r x =
+    subst (λ (c : Command). P c d ks xs) (sym is)
+    (subst (λ a. P case a ks xs) (sym p)
+    (subst (λ (l : List ℕ). P case decision l xs) (sym q) (subst (λ (l : List ℕ). P case decision ks' l) (sym r) x)))
 
--- It is decided of decisions and cells that are the same.
-pub decided_same : {f : Figures} {ks xs : List ℕ} {s : Said} {next : Farm} {d d' : Decision} {ks' xs' ks'' xs'' : List ℕ} → d ≡ d' → ks'' ≡ ks' → xs'' ≡ xs'
-    → Decides f ks xs s next d' ks' xs' → Decides f ks xs s next d ks'' xs''
-decided_same {f} {ks} {xs} {s} {next} {d} {d'} {ks'} {xs'} {ks''} {xs''} p q r x =
-    subst (λ (e : Decision). Decides f ks xs s next e ks'' xs'') (sym p)
-    (subst (λ (l : List ℕ). Decides f ks xs s next d' l xs'') (sym q) (subst (λ (l : List ℕ). Decides f ks xs s next d' ks' l) (sym r) x))
-
--- So are the lengths of cells.
+-- and so do the lengths of cells.
 pub cells_same : {ks xs ks' xs' : List ℕ} → ks ≡ ks' → xs ≡ xs' → CellsSized ks' xs' → CellsSized ks xs
 cells_same p q z = (ap length p ∙ z.0, ap length q ∙ z.1)
 
@@ -68,23 +66,19 @@ unfolding chunk_texts
 clock_plain f t s none e = ap answer_text e ∙ sym (ap (λ (l : List Chunk). chunk_texts l ++ answer_text (move_said f t lent)) none)
 
 -- A move that is granted, and what it begins.
-module _ (f : Farm) (t : ℕ) (r : Move) (sized : Sized f) (b : Begins f t r.due) (x : MoveDecides f t lent r) (g : r.granted ≡ true) where
+module _ (f : Farm) (t : ℕ) (r : Move) (sized : Sized f) (b : Begins f t r.due) (x : MoveDecides f t lent (Ok r)) where
   abbrev named : List Job
   named = in_order f.jobs (take r.due.count r.due.keys)
 
   few : length (lines_of_all f.costs named) ≤ lent
-  few = omega (arith, ap length (begins_lines f t r.due sized b), (move_taken f t lent r x g).2)
+  few = omega (arith, ap length (begins_lines f t r.due sized b), (move_taken f t lent r x).2)
 
   counted : length (lines_of_all f.costs named) ≡ r.due.lines
   counted = ap length (begins_lines f t r.due sized b) ∙ begins_count f t r.due sized b
 
   -- What is asked to write its lines to the lent records.
-  pub rows_asked : (ks xs : List ℕ) → CellsSized ks xs
-      → (r.due.count ≤ 128) × (length ks ≡ 8192) × (length xs ≡ 8192) × All (λ (k : Key). k.place < 128) (take r.due.count r.due.keys) × All (Sendable f.costs) named × (chunks named ≤ 1024)
-  rows_asked ks xs z = (
-    begins_few f t r.due sized b,
-    z.0,
-    z.1,
+  pub rows_asked : All (λ (k : Key). k.place < 128) (take r.due.count r.due.keys) × All (Sendable f.costs) named × (chunks named ≤ 1024)
+  rows_asked = (
     begins_places f t r.due sized b,
     begins_sends f t r.due sized b,
     omega (arith, few, counted, b.due.lines, ap chunks b.due.jobs),
@@ -98,8 +92,8 @@ module _ (f : Farm) (t : ℕ) (r : Move) (sized : Sized f) (b : Begins f t r.due
 
   -- The lines in the records, and then the answer, are what the move prints.
   pub clock_text : (rows rest : List (List ℕ)) → rows ≡ map chunk_row (lines_of_all f.costs named) ++ rest
-      → row_texts (take r.due.lines rows) ++ answer_text (said r.answer) ≡ chunk_texts (move_lines f t lent) ++ answer_text (move_said f t lent)
+      → row_texts (take r.due.lines rows) ++ answer_text (told r.answer) ≡ chunk_texts (move_lines f t lent) ++ answer_text (move_said f t lent)
   clock_text rows rest e =
       ap₂ (λ (y z : List ℕ). y ++ z)
-      (front_texts (lines_of_all f.costs named) rest rows r.due.lines e counted ∙ ap chunk_texts (begins_lines f t r.due sized b ∙ sym (move_taken f t lent r x g).1))
+      (front_texts (lines_of_all f.costs named) rest rows r.due.lines e counted ∙ ap chunk_texts (begins_lines f t r.due sized b ∙ sym (move_taken f t lent r x).1))
       (ap answer_text x.says)

@@ -1,21 +1,44 @@
--- What the functions promise: a block, the end of the input.
-use Rattle.std.specs.Prelude.{◌≡◌, List, [], cond, ℕ, ◌+◌, ◌≤◌, ◌<◌, leb, length}
-use Rattle.planner.specs.Model.{Farm, farm_of}
+-- What the functions promise: a line, a block, the end of the input.
+use Rattle.std.specs.Prelude.{◌≡◌, List, [], cond, ℕ, ◌+◌, ◌≤◌, ◌<◌, Bool, leb, length, replicate, Option, None}
+use Rattle.walk.specs.Model.{no_chunk}
+use Rattle.planner.specs.Model.{Farm, meant}
+use Rattle.planner.specs.Call.{move}
 use Rattle.text.specs.Writing.{WroteWithin}
 use Rattle.protocol.specs.declared.Progress.{Progress}
-use Rattle.lines.specs.Model.{Pending, feed, at_end}
+use Rattle.protocol.specs.declared.Session.{Session}
+use Rattle.lines.specs.declared.Order.{Order}
+use Rattle.lines.specs.Orders.{order_turn}
+use Rattle.lines.specs.Model.{lent, Answered, answered_text, called, Pending, feed, at_end}
 use Rattle.lines.specs.Feeding.{stretch}
 use Rattle.lines.specs.Rows.{pending_of}
 use Rattle.lines.specs.AnswerLines.{largest}
 
+-- the farm of a day
+abbrev pub day_farm : Session → Farm
+day_farm s = meant s.farm
+
+-- a line that is answered on the day s: what it prints stands from a place on, and it leaves the day t
+pub record Puts (x : Answered) (at : ℕ) (entry exit : List ℕ) (r : ℕ) (s t : Session) : Type 0 where
+  pub wrote : WroteWithin largest (answered_text x) at entry exit r
+  pub farm : day_farm t ≡ x.farm
+  pub rest : t.rest ≡ s.rest
+
+-- an order that is kept where it is in its turn
+abbrev pub order_kept : Option Order → Bool → Option Order
+order_kept o opened = cond (order_turn o opened) o None
+
+-- a clock move that is lent the program's records
+abbrev pub moving : Farm → ℕ → Answered
+moving f t = called f (move t (replicate lent no_chunk))
+
 -- a block from a place on, fed to a day so far, its farm and its pending line: it stops at its end, or where the room
--- left may not hold the next answer. The farm then is that of the figures and these rows of cells
-pub record Took (f : Farm) (p : Pending) (block : List ℕ) (from : ℕ) (entry exit : List ℕ) (r : Progress) (ks xs : List ℕ) : Type 0 where
+-- left may not hold the next answer. It leaves the day t
+pub record Took (f : Farm) (p : Pending) (block : List ℕ) (from : ℕ) (entry exit : List ℕ) (r : Progress) (t : Session) : Type 0 where
   pub onward : from ≤ r.next
   pub inside : from ≤ length block → r.next ≤ length block
   pub stops : r.next < length block → length entry < r.written + largest
-  pub farm : farm_of r.session.figures ks xs ≡ (feed f p (stretch from r.next block)).farm
-  pub pending : pending_of r.session.rest ≡ (feed f p (stretch from r.next block)).pending
+  pub farm : day_farm t ≡ (feed f p (stretch from r.next block)).farm
+  pub pending : pending_of t.rest ≡ (feed f p (stretch from r.next block)).pending
   pub wrote : WroteWithin (length entry) (feed f p (stretch from r.next block)).text 0 entry exit r.written
 
 -- the end of the input; nothing is written where the room may not hold the answer

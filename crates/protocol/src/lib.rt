@@ -5,23 +5,25 @@
 
 mod blocks;
 
-pub use blocks::{answer_block, end_of_input, start};
+pub use blocks::start;
+use booking::Cells;
 use lines::Rest;
-use planner::Figures;
+use planner::Farm;
 
-// A day so far: the figures of the farm, and what has come of the next line. The cells of the farm's bookings are lent
-// beside it, so that no line copies them.
+// A day so far: the farm, and what has come of the next line. The rest is memory for a plan and for the lines of a
+// clock move, in which nothing is kept. A day is lent to each block, so that no line copies it. A record is its eight
+// numbers in `rows`: `write_rows` and `put_move` promise what they write of such rows.
 #[derive(Clone, Copy)]
 pub struct Session {
-    pub figures: Figures,
+    pub farm: Farm,
     pub rest: Rest,
+    pub plan: Cells,
+    pub rows: [[u64; 8]; 1024],
 }
 
-// What a block comes to: the day so far, the place in the block that is next, and how many bytes of answers were
-// written.
+// What a block comes to: the place in the block that is next, and how many bytes of answers were written.
 #[derive(Clone, Copy)]
 pub struct Progress {
-    pub session: Session,
     pub next: usize,
     pub written: usize,
 }

@@ -1,85 +1,72 @@
 -- What the parts of `read` work out, and what each turn of their loops keeps.
-use Rattle.std.specs.Prelude.{ℕ, zero, suc, min, ◌+◌, ◌*◌, ◌-◌, ◌^◌, ◌≤◌, ◌<◌, ◌≡◌, refl, Bool, false, cond, ◌&&◌, leb, eqb, get_or, take, drop, set, replicate}
+use Rattle.std.specs.Prelude.{Option, Some, None, ℕ, zero, suc, min, ◌+◌, ◌*◌, ◌-◌, ◌^◌, ◌≤◌, ◌<◌, ◌≡◌, refl, Bool, false, cond, ◌&&◌, leb, eqb, get_or, take, drop, set, replicate}
 use Rattle.std.proofs.Math.Path.{sym, ap}
-use Rattle.std.proofs.Common.{◌∙◌, add-one, pow-suc, arith, le-leb, eq-eqb, ne_eqb, drop-drop}
+use Rattle.std.proofs.Common.{◌∙◌, add-one, pow-suc, arith, le-leb, drop-drop}
 use mathlib.Core.List.{List, [], ◌∷◌, map}
 use Rattle.std.proofs.Math.Bool.{true, and-false}
 use Rattle.std.proofs.Math.Nat.{pow-le-pow_right}
-use Rattle.std.proofs.lemmas.Bool.{lt-leb}
 use Rattle.std.proofs.Math.ListN.{length, length-map}
 use Rattle.std.proofs.lemmas.List.Edits.{sets}
 use Rattle.std.proofs.Math.Seq.{drop-cons, drop-length, take-nil}
 use Rattle.search.specs.Model.{this, before}
+use Rattle.std.specs.Char.{is_ascii_digit}
+use Rattle.std.specs.Cmp.Lexicographic.{pointwise}
 use Rattle.text.specs.Model.{tab, value_from, value, padded}
-use Rattle.reading.specs.declared.Number.{Number}
 use Rattle.reading.specs.declared.Numbers.{Numbers}
 use Rattle.reading.specs.declared.Kind.{Kind}
 use Rattle.reading.specs.declared.Kind.TheVariants as kind
-use Rattle.reading.specs.Model.{same, on_first, fields, others_of, all_digits, is_number, all_numbers, kind_of, fits, line_kind, readable, row_with, row_of}
+use Rattle.reading.specs.Model.{same, kind_word, kinds, kind_among, on_first, fields, others_of, all_digits, is_number, all_numbers, kind_of, fits, line_kind, readable, row_with, row_of}
 
 -- ---- The same bytes
 
-module _ (xs ys : List ℕ) (i : ℕ) (h : i < length xs) (k : i < length ys) where
-  same_cons : same (drop i xs) (drop i ys) ≡ eqb (get_or xs i 0) (get_or ys i 0) && same (drop (i + 1) xs) (drop (i + 1) ys)
-  unfolding same
-  same_cons = rw (add-one, drop-cons xs i 0 h, drop-cons ys i 0 k)
-
-  pub same_more : get_or xs i 0 ≡ get_or ys i 0 → same (drop i xs) (drop i ys) ≡ same (drop (i + 1) xs) (drop (i + 1) ys)
-  same_more e = same_cons ∙ rw (eq-eqb (get_or xs i 0) (get_or ys i 0) e)
-
-  pub same_stop : (get_or xs i 0 ≡ get_or ys i 0 → ⊥) → same (drop i xs) (drop i ys) ≡ false
-  same_stop n = same_cons ∙ rw (ne_eqb (get_or xs i 0) (get_or ys i 0) n)
-
-pub same_none : (xs ys : List ℕ) (i : ℕ) → i ≡ length xs → i ≡ length ys → same (drop i xs) (drop i ys) ≡ true
+-- It is what `==` of two slices answers.
+same_is : (xs ys : List ℕ) → same xs ys ≡ pointwise eqb xs ys
 unfolding same
-same_none xs ys i d e =
-    let p : drop i xs ≡ [] = rw d (drop-length xs) in
-    let q : drop i ys ≡ [] = rw e (drop-length ys) in
-    rw (p, q)
+same_is [] [] = refl
+same_is [] (y ∷ ys) = refl
+same_is (x ∷ xs) [] = refl
+same_is (x ∷ xs) (y ∷ ys) = rw (same_is xs ys)
 
--- Bytes of another length are others.
-pub same_length : (xs ys : List ℕ) → (length xs ≡ length ys → ⊥) → same xs ys ≡ false
-unfolding same
-same_length [] [] n = absurd (n refl)
-same_length [] (y ∷ ys) n = refl
-same_length (x ∷ xs) [] n = refl
-same_length (x ∷ xs) (y ∷ ys) n = rw (same_length xs ys (λ e. n (ap suc e)), and-false)
+-- the kind that a word names, by that `==`
+abbrev pub named : List Kind → List ℕ → Kind
+named [] w = kind.Unreadable
+named (k ∷ ks) w = cond (pointwise eqb w (kind_word k)) k (named ks w)
+
+among_is : (ks : List Kind) (w : List ℕ) → kind_among ks w ≡ named ks w
+unfolding kind_among
+among_is [] w = refl
+among_is (k ∷ ks) w = rw (same_is w (kind_word k), among_is ks w)
+
+pub kind_is : (w : List ℕ) → kind_of w ≡ named kinds w
+unfolding kind_of
+kind_is w = among_is kinds w
 
 -- ---- A number
 
--- a field read as a number: whether it is one, and its value or 0
-abbrev pub number_in : List ℕ → Number
-number_in f = record { known = is_number f; value = cond (is_number f) (value f) 0 }
+-- a field read as a number; none where it is not one
+abbrev pub number_in : List ℕ → Option ℕ
+number_in f = cond (is_number f) (Some (value f)) None
 
 -- the same of digits behind others of value v
-abbrev pub number_from : ℕ → List ℕ → Number
-number_from v f = record { known = all_digits f; value = cond (all_digits f) (value_from v f) 0 }
-
-pub number_short : (f : List ℕ) → length f < 1 → number_in f ≡ record { known = false; value = 0 }
-number_short f h = rw (lt-leb 1 (length f) h)
-
-pub number_long : (f : List ℕ) → 13 < length f → number_in f ≡ record { known = false; value = 0 }
-number_long f h = rw (lt-leb (length f) 13 h, and-false)
+abbrev pub number_from : ℕ → List ℕ → Option ℕ
+number_from v f = cond (all_digits f) (Some (value_from v f)) None
 
 pub number_start : (f : List ℕ) → 1 ≤ length f → length f ≤ 13 → number_from 0 f ≡ number_in f
 number_start f h k = rw (le-leb 1 (length f) h, le-leb (length f) 13 k)
 
 module _ (v : ℕ) (f : List ℕ) (i : ℕ) (h : i < length f) where
   number_cons : number_from v (drop i f)
-      ≡ record { known = leb 48 (get_or f i 0) && leb (get_or f i 0) 57 && all_digits (drop (i + 1) f); value = cond (leb 48 (get_or f i 0) && leb (get_or f i 0) 57 && all_digits (drop (i + 1) f)) (value_from (v * 10 + (get_or f i 0 - 48)) (drop (i + 1) f)) 0 }
+      ≡ cond (leb 48 (get_or f i 0) && leb (get_or f i 0) 57 && all_digits (drop (i + 1) f)) (Some (value_from (v * 10 + (get_or f i 0 - 48)) (drop (i + 1) f))) None
   unfolding all_digits value_from
   number_cons = rw (add-one, drop-cons f i 0 h)
 
-  pub number_low : get_or f i 0 < 48 → number_from v (drop i f) ≡ record { known = false; value = 0 }
-  number_low l = number_cons ∙ rw (lt-leb 48 (get_or f i 0) l)
-
-  pub number_high : 57 < get_or f i 0 → number_from v (drop i f) ≡ record { known = false; value = 0 }
-  number_high l = number_cons ∙ rw (lt-leb (get_or f i 0) 57 l, and-false)
+  pub number_other : false ≡ is_ascii_digit (get_or f i 0) → number_from v (drop i f) ≡ None
+  number_other o = number_cons ∙ rw (← o)
 
   pub number_more : (b : ℕ) → b ≡ get_or f i 0 → 48 ≤ b → b ≤ 57 → number_from v (drop i f) ≡ number_from (v * 10 + (b - 48)) (drop (i + 1) f)
   number_more b e l m = number_cons ∙ rw (← e, le-leb 48 b l, le-leb b 57 m)
 
-pub number_none : (v : ℕ) (f : List ℕ) (i : ℕ) → i ≡ length f → number_from v (drop i f) ≡ record { known = true; value = v }
+pub number_none : (v : ℕ) (f : List ℕ) (i : ℕ) → i ≡ length f → number_from v (drop i f) ≡ Some v
 unfolding all_digits value_from
 number_none v f i e = let p : drop i f ≡ [] = rw e (drop-length f) in rw p
 
@@ -121,50 +108,48 @@ behind_none xs i e = rw (e, drop-length xs)
 
 -- ---- The numbers of a line
 
--- the numbers of fields, stored from place c on, up to the first that is none
-unfoldable pub gathered : ℕ → List ℕ → List (List ℕ) → Numbers
-gathered c out [] = record { known = true; count = c; numbers = out }
-gathered c out (f ∷ fs) = cond (is_number f) (gathered (suc c) (set out c (value f)) fs) (record { known = false; count = c; numbers = out })
+-- What a test with one answer says of it.
+none_false : {X : Type 0} (t : Bool) (x : X) → None ≡ cond t (Some x) None → t ≡ false
+none_false true x e = cc
+none_false false x e = refl
+
+some_true : {X : Type 0} (t : Bool) (x y : X) → Some y ≡ cond t (Some x) None → (t ≡ true) × (y ≡ x)
+some_true true x y e = (refl, cc)
+some_true false x y e = cc
+
+-- the numbers of fields, stored from place c on; none where a field is no number
+unfoldable pub gathered : ℕ → List ℕ → List (List ℕ) → Option Numbers
+gathered c out [] = Some (record { count = c; numbers = out })
+gathered c out (f ∷ fs) = cond (is_number f) (gathered (suc c) (set out c (value f)) fs) None
 
 module _ (c : ℕ) (out : List ℕ) (fs : List (List ℕ)) (f : List ℕ) (gs : List (List ℕ)) (e : fs ≡ f ∷ gs) where
-  pub gathered_more : (x : Number) (next : List ℕ) → x ≡ number_in f → x.known ≡ true → next ≡ set out c x.value → gathered c out fs ≡ gathered (c + 1) next gs
+  pub gathered_more : (v : ℕ) (next : List ℕ) → Some v ≡ number_in f → next ≡ set out c v → gathered c out fs ≡ gathered (c + 1) next gs
   unfolding gathered
-  gathered_more x next d k s = let t : is_number f ≡ true = sym (ap (λ (y : Number). y.known) d) ∙ k in rw (add-one, s, e, d, t)
+  gathered_more v next d s = let t = some_true (is_number f) (value f) v d in rw (add-one, s, e, t.0, t.1)
 
-  pub gathered_end : is_number f ≡ false → gathered c out fs ≡ record { known = false; count = c; numbers = out }
+  pub gathered_end : is_number f ≡ false → gathered c out fs ≡ None
   unfolding gathered
   gathered_end t = rw (e, t)
 
-  pub gathered_stop : (x : Number) → x ≡ number_in f → x.known ≡ false → gathered c out fs ≡ record { known = false; count = c; numbers = out }
-  gathered_stop x d k = gathered_end (sym (ap (λ (y : Number). y.known) d) ∙ k)
+  pub gathered_stop : None ≡ number_in f → gathered c out fs ≡ None
+  gathered_stop d = gathered_end (none_false (is_number f) (value f) d)
 
-pub gathered_none : (c : ℕ) (out : List ℕ) (fs : List (List ℕ)) → fs ≡ [] → gathered c out fs ≡ record { known = true; count = c; numbers = out }
+pub gathered_none : (c : ℕ) (out : List ℕ) (fs : List (List ℕ)) → fs ≡ [] → gathered c out fs ≡ Some (record { count = c; numbers = out })
 unfolding gathered
 gathered_none c out fs e = rw e
 
 -- What is gathered, as a whole.
-known_step : (t : Bool) (c : ℕ) (out : List ℕ) (f : List ℕ) (fs : List (List ℕ)) → (gathered (suc c) (set out c (value f)) fs).known ≡ all_numbers fs
-    → (cond t (gathered (suc c) (set out c (value f)) fs) (record { known = false; count = c; numbers = out })).known ≡ t && all_numbers fs
-known_step true c out f fs h = h
-known_step false c out f fs h = refl
+all_step : (t u : Bool) (r : Option Numbers) (x : Numbers) → r ≡ cond u (Some x) None → cond t r None ≡ cond (t && u) (Some x) None
+all_step true u r x e = e
+all_step false u r x e = refl
 
-pub gathered_known : (c : ℕ) (out : List ℕ) (fs : List (List ℕ)) → (gathered c out fs).known ≡ all_numbers fs
+pub gathered_is : (c : ℕ) (out : List ℕ) (fs : List (List ℕ))
+    → gathered c out fs ≡ cond (all_numbers fs) (Some (record { count = c + length fs; numbers = sets out c (map value fs) })) None
 unfolding gathered all_numbers
-gathered_known c out [] = refl
-gathered_known c out (f ∷ fs) = known_step (is_number f) c out f fs (gathered_known (suc c) (set out c (value f)) fs)
-
-all_step : (t : Bool) (c : ℕ) (out : List ℕ) (f : List ℕ) (fs : List (List ℕ)) (r : Numbers) → (all_numbers fs ≡ true → gathered (suc c) (set out c (value f)) fs ≡ r) → t && all_numbers fs ≡ true
-    → cond t (gathered (suc c) (set out c (value f)) fs) (record { known = false; count = c; numbers = out }) ≡ r
-all_step true c out f fs r h e = h e
-all_step false c out f fs r h e = absurd (let z : ◌≡◌ {A = ℕ} 0 1 = cc in omega arith)
-
-pub gathered_all : (c : ℕ) (out : List ℕ) (fs : List (List ℕ)) → all_numbers fs ≡ true
-    → gathered c out fs ≡ record { known = true; count = c + length fs; numbers = sets out c (map value fs) }
-unfolding gathered all_numbers
-gathered_all c out [] e = let n : c + 0 ≡ c = omega arith in rw n
-gathered_all c out (f ∷ fs) e =
+gathered_is c out [] = let n : c + 0 ≡ c = omega arith in rw n
+gathered_is c out (f ∷ fs) =
     let n : c + suc (length fs) ≡ suc c + length fs = omega arith in
-    all_step (is_number f) c out f fs _ (λ k. rw n (gathered_all (suc c) (set out c (value f)) fs k)) e
+    all_step (is_number f) (all_numbers fs) _ _ (rw n (gathered_is (suc c) (set out c (value f)) fs))
 
 -- ---- A row
 
@@ -184,30 +169,30 @@ sets_zeros (suc n) (v ∷ vs) =
     let z : suc n - suc (length vs) ≡ n - length vs = omega arith in
     rw z (sets_cons v (replicate n 0) 0 vs ∙ ap (λ (l : List ℕ). v ∷ l) (sets_zeros n vs))
 
-module _ (xs : List ℕ) (e : ℕ) (k : Kind) (x : Numbers) (cut : e ≡ 0 + before (this tab) xs) (word : k ≡ kind_of (take (e - 0) xs)) (all : x ≡ gathered 0 (replicate 39 0) (behind (drop e xs))) where
+module _ (xs : List ℕ) (e : ℕ) (cut : e ≡ 0 + before (this tab) xs) where
   at_tab : before (this tab) xs ≡ e
   at_tab = omega arith
-
-  first_is : line_kind xs ≡ k
-  first_is = let z : e - 0 ≡ e = omega arith in rw (fields_cut xs, at_tab) (sym (rw z at word))
 
   others_are : others_of (fields xs) ≡ behind (drop e xs)
   others_are = rw (fields_cut xs, at_tab)
 
-  known_is : all_numbers (behind (drop e xs)) ≡ x.known
-  known_is = sym (ap (λ (y : Numbers). y.known) all ∙ gathered_known 0 (replicate 39 0) (behind (drop e xs)))
-
   -- A field is no number.
-  pub row_unknown : x.known ≡ false → row_of xs ≡ row_with kind.Unreadable []
+  pub row_unknown : None ≡ gathered 0 (replicate 39 0) (behind (drop e xs)) → row_of xs ≡ row_with kind.Unreadable []
   unfolding row_of readable
-  row_unknown u = rw (others_are, known_is, u, and-false)
+  row_unknown g =
+      let u : all_numbers (behind (drop e xs)) ≡ false = none_false _ _ (g ∙ gathered_is 0 (replicate 39 0) (behind (drop e xs))) in
+      rw (others_are, u, and-false)
 
-  module _ (u : x.known ≡ true) where
-    all_are : x ≡ record { known = true; count = 0 + length (behind (drop e xs)); numbers = sets (replicate 39 0) 0 (map value (behind (drop e xs))) }
-    all_are = all ∙ gathered_all 0 (replicate 39 0) (behind (drop e xs)) (known_is ∙ u)
+  module _ (k : Kind) (x : Numbers) (word : k ≡ kind_of (take e xs)) (all : Some x ≡ gathered 0 (replicate 39 0) (behind (drop e xs))) where
+    first_is : line_kind xs ≡ k
+    first_is = rw (fields_cut xs, at_tab) (sym word)
+
+    all_are : (all_numbers (behind (drop e xs)) ≡ true)
+        × (x ≡ record { count = 0 + length (behind (drop e xs)); numbers = sets (replicate 39 0) 0 (map value (behind (drop e xs))) })
+    all_are = some_true _ _ x (all ∙ gathered_is 0 (replicate 39 0) (behind (drop e xs)))
 
     count_is : length (behind (drop e xs)) ≡ x.count
-    count_is = let n : x.count ≡ 0 + length (behind (drop e xs)) = ap (λ (y : Numbers). y.count) all_are in omega arith
+    count_is = let n : x.count ≡ 0 + length (behind (drop e xs)) = ap (λ (y : Numbers). y.count) all_are.1 in omega arith
 
     -- There are too few or too many.
     pub row_unfit : fits k x.count ≡ false → row_of xs ≡ row_with kind.Unreadable []
@@ -220,5 +205,5 @@ module _ (xs : List ℕ) (e : ℕ) (k : Kind) (x : Numbers) (cut : e ≡ 0 + bef
     row_read f =
         let vs = map value (behind (drop e xs)) in
         let n : length vs ≡ x.count = length-map (behind (drop e xs)) value ∙ count_is in
-        let s : x.numbers ≡ padded 39 vs = ap (λ (y : Numbers). y.numbers) all_are ∙ sets_zeros 39 vs in
-        rw (first_is, others_are, count_is, f, known_is, u, s, n)
+        let s : x.numbers ≡ padded 39 vs = ap (λ (y : Numbers). y.numbers) all_are.1 ∙ sets_zeros 39 vs in
+        rw (first_is, others_are, count_is, f, all_are.0, s, n)

@@ -1,16 +1,17 @@
 // Text in: one line, given without its newline, and the record that it is. It knows bytes and numbers, and no farm.
-// What the public functions mean is in specs/Model.antt, what their parts work out in specs/Steps.antt and specs/Separators.antt.
+// What the public functions mean is in specs/Model.antt, what their parts work out in specs/Steps.antt and
+// specs/Separators.antt.
 #![tactic(auto)]
 
-ghost use Rattle.std.specs.Prelude.{◌≡◌, false, cond, [], ◌≤◌, length, drop, set, replicate};
-ghost use Rattle.reading.specs.Model.{same, kind_of, fits, row_with, row_of};
+ghost use Rattle.std.specs.Prelude.{◌≡◌, [], ◌≤◌, length, drop, replicate, IfSome};
+ghost use Rattle.reading.specs.Model.{kind_of, fits, row_with, row_of};
 ghost use Rattle.reading.specs.Separators.{field_from};
 ghost use Rattle.reading.specs.Steps.{number_in, behind, gathered};
 
-use numbers::{smaller_size, wide8};
 use search::next_of;
 
 // The kind of a line, which its first field names; and that of a line that cannot be read.
+// `Unreadable` is no Option: `kind_of`, `row_with` and `row_of` of specs/Model.antt, and theorems on them, speak of it.
 #[derive(Clone, Copy)]
 pub enum Kind {
     Farm,
@@ -23,6 +24,7 @@ pub enum Kind {
 }
 
 // A line's record: its kind, how many numbers it keeps, and these.
+// The count stands beside the numbers: memory is fixed, and `row_with` and `row_kept` of specs/ speak of both.
 #[derive(Clone, Copy)]
 pub struct Row {
     pub kind: Kind,
@@ -30,86 +32,50 @@ pub struct Row {
     pub numbers: [u64; 39],
 }
 
-// A field: where it ends, and whether that is at a tab or at the line's end, and not at a newline.
-#[derive(Clone, Copy)]
-struct Field {
-    end: usize,
-    whole: bool,
-}
-
-// A field as a number: whether it is one, and its value.
-#[derive(Clone, Copy)]
-struct Number {
-    known: bool,
-    value: u64,
-}
-
-const NO_NUMBER: Number = Number {
-    known: false,
-    value: 0,
-};
-
-// Fields: whether all are numbers, how many they are, and the first of them.
+// Fields that are numbers: how many they are, and the first of them. No ArrayVec: the count goes on above 39, where no
+// number is kept (`gathered`).
 #[derive(Clone, Copy)]
 struct Numbers {
-    known: bool,
     count: usize,
     numbers: [u64; 39],
 }
 
-// The field from `from` on, up to the next tab or newline.
-fn field_from(line: &[u8], from: usize) -> Field
+// Where the field from `from` on ends, at the next tab or at the line's end; none at a newline.
+#[tactic(auto, using(search::specs::Laws::next_within))]
+fn field_from(line: &[u8], from: usize) -> Option<usize>
     requires { from ≤ length line.now }
-    ensures { (result ≡ field_from line.now from) × (from ≤ result.end) × (result.end ≤ length line.now) }
+    ensures place { result ≡ field_from line.now from }
+    ensures within { IfSome result (λ end. (from ≤ end) × (end ≤ length line.now)) }
 {
     let end = next_of(line, from, b'\t', b'\n');
-    if end < line.len() {
-        let whole = line[end] != b'\n';
-        return Field { end, whole };
+    match line.get(end) {
+        Some(b'\n') => None,
+        _ => Some(end),
     }
-    Field { end, whole: true }
 }
 
 // ---- The kind
 
-// Whether both are the same bytes.
-fn is_word(word: &[u8], other: &[u8]) -> bool
-    ensures { result ≡ same word.now other.now }
-{
-    let n = word.len();
-    if n != other.len() {
-        return false;
-    }
-    let mut i = 0;
-    while i < n {
-        if word[i] != other[i] {
-            return false;
-        }
-        i += 1;
-    }
-    true
-}
-
-// The kind where the word is that text, otherwise the other one.
-fn kind_if(word: &[u8], text: &[u8], kind: Kind, other: Kind) -> Kind
-    ensures { result ≡ cond (same word.now text.now) kind other }
-{
-    if is_word(word, text) {
-        return kind;
-    }
-    other
-}
-
-// The kind that a word names.
+// The kind that a word names. By `==`, since a `match` on the words leaves open goals, one for each byte that differs.
+#[tactic(auto, using(crate::specs::Steps::kind_is))]
 fn kind_of(word: &[u8]) -> Kind
     ensures { result ≡ kind_of word.now }
 {
-    let quote = kind_if(word, b"quote", Kind::Quote, Kind::Unreadable);
-    let withdraw = kind_if(word, b"withdraw", Kind::Withdraw, quote);
-    let account = kind_if(word, b"account", Kind::Account, withdraw);
-    let clock = kind_if(word, b"clock", Kind::Clock, account);
-    let job = kind_if(word, b"job", Kind::Job, clock);
-    kind_if(word, b"farm", Kind::Farm, job)
+    if word == b"farm".as_slice() {
+        Kind::Farm
+    } else if word == b"job".as_slice() {
+        Kind::Job
+    } else if word == b"clock".as_slice() {
+        Kind::Clock
+    } else if word == b"account".as_slice() {
+        Kind::Account
+    } else if word == b"withdraw".as_slice() {
+        Kind::Withdraw
+    } else if word == b"quote".as_slice() {
+        Kind::Quote
+    } else {
+        Kind::Unreadable
+    }
 }
 
 // Whether a kind has that many numbers.
@@ -118,11 +84,11 @@ fn fitting(kind: Kind, count: usize) -> bool
 {
     match kind {
         Kind::Farm => 6 <= count,
-        Kind::Job => 3 <= count && count <= 4,
+        Kind::Job => (3..=4).contains(&count),
         Kind::Clock => count == 1,
         Kind::Account => count == 1,
         Kind::Withdraw => count == 1,
-        Kind::Quote => 3 <= count && count <= 4,
+        Kind::Quote => (3..=4).contains(&count),
         Kind::Unreadable => false,
     }
 }
@@ -130,85 +96,43 @@ fn fitting(kind: Kind, count: usize) -> bool
 // ---- The numbers
 
 // A field of 1 to 13 digits and its value.
-fn digits(field: &[u8]) -> Number
+fn digits(field: &[u8]) -> Option<u64>
     ensures { result ≡ number_in field.now }
 {
-    let n = field.len();
-    if n < 1 {
-        return NO_NUMBER;
-    }
-    if 13 < n {
-        return NO_NUMBER;
+    if !(1..=13).contains(&field.len()) {
+        return None;
     }
     let mut value: u64 = 0;
-    let mut i = 0;
-    while i < n {
-        let b = wide8(field[i]);
-        if b < 48 {
-            return NO_NUMBER;
+    for b in field {
+        if !b.is_ascii_digit() {
+            return None;
         }
-        if 57 < b {
-            return NO_NUMBER;
-        }
-        value = value * 10 + (b - 48);
-        i += 1;
+        value = value * 10 + u64::from(*b - b'0');
     }
-    Number { known: true, value }
+    Some(value)
 }
 
-// A number is stored at its place; past the last place it is not.
-fn stored(numbers: [u64; 39], place: usize, value: u64) -> [u64; 39]
-    ensures { result ≡ set numbers place value }
-{
-    let mut next = numbers;
-    if place < 39 {
-        next[place] = value;
-        return next;
-    }
-    next
-}
-
-// The numbers before a field that is none.
-fn stopped(count: usize, numbers: [u64; 39]) -> Numbers
-    ensures { result ≡ record { known = false; count = count; numbers = numbers } }
-{
-    Numbers {
-        known: false,
-        count,
-        numbers,
-    }
-}
-
-// The numbers in the fields behind the tab at `from`, up to the first that is none.
-fn gather(line: &[u8], from: usize) -> Numbers
+// The numbers in the fields behind the tab at `from`; none where a field is no number. Past the last place a number is
+// counted and not kept.
+fn gather(line: &[u8], from: usize) -> Option<Numbers>
     requires { from ≤ length line.now }
     ensures { result ≡ gathered 0 (replicate 39 0) (behind (drop from line.now)) }
 {
-    let n = line.len();
     let mut numbers = [0u64; 39];
     let mut count = 0;
     let mut at = from;
-    while at < n {
-        let start = at + 1;
-        let field = field_from(line, start);
-        if !field.whole {
-            return stopped(count, numbers);
+    // From field to field: the search of words finds each end, where `split` would look at each byte.
+    while at < line.len() {
+        let end = field_from(line, at + 1)?;
+        let value = digits(&line[at + 1..end])?;
+        // By an index: the contract of `get_mut` says nothing of what the numbers end as, so no proof closes.
+        if count < numbers.len() {
+            numbers[count] = value;
         }
-        let end = field.end;
-        let x = digits(&line[start..end]);
-        if !x.known {
-            return stopped(count, numbers);
-        }
-        let next = stored(numbers, count, x.value);
-        numbers = next;
         count += 1;
         at = end;
     }
-    Numbers {
-        known: true,
-        count,
-        numbers,
-    }
+    Some(Numbers { count, numbers })
 }
 
 // ---- A line
@@ -228,23 +152,21 @@ pub fn unreadable() -> Row
 pub fn read(line: &[u8]) -> Row
     ensures { result ≡ row_of line.now }
 {
-    let first = field_from(line, 0);
-    if !first.whole {
+    let Some(end) = field_from(line, 0) else {
         return unreadable();
-    }
-    let end = first.end;
-    let kind = kind_of(&line[0..end]);
-    let x = gather(line, end);
-    if !x.known {
+    };
+    let kind = kind_of(&line[..end]);
+    let Some(x) = gather(line, end) else {
         return unreadable();
-    }
+    };
     if !fitting(kind, x.count) {
         return unreadable();
     }
+    // By a variable: a field that is an array, put into a literal straight, gets no generated proof.
     let numbers = x.numbers;
     Row {
         kind,
-        count: smaller_size(39, x.count),
+        count: x.count.min(39),
         numbers,
     }
 }

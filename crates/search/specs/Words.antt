@@ -246,3 +246,7 @@ word_marks w c v y h small a r =
     let m = y + 0x0101_0101_0101_0101 in
     let d : m ≡ bit_xor w (c * 0x0101_0101_0101_0101) + m / 2 ^ 64 * 2 ^ 64 = omega (arith, div-add-mod' m (2 ^ 64), rw a at r) in
     rw a (test_marks c small 8 w (omega arith) y (m / 2 ^ 64) d)
+
+-- What `wrapping_sub` makes of x, with k added again, is x.
+pub wrapped : (x k : ℕ) → x < 2 ^ 64 → k ≤ 2 ^ 64 → ((x + (2 ^ 64 - k)) % 2 ^ 64 + k) % 2 ^ 64 ≡ x
+wrapped x k h l = omega arith

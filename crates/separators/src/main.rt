@@ -4,14 +4,13 @@
 
 ghost use Rattle.std.specs.Prelude.{◌≤◌, length};
 
-use numbers::wide8;
 use search::{by_bytes, next_of};
 use std::env::FillError;
 use std::io;
-use std::num::{wrapping_add_u64, wrapping_sub_u64};
 use std::rt::{CpuClock, Env};
 
-// What a text is made of: fields of `least` digits and up to `spread` more, and so many fields to a line besides the last.
+// What a text is made of: fields of `least` digits and up to `spread` more, and so many fields to a line besides the
+// last.
 #[derive(Clone, Copy)]
 struct Shape {
     least: u64,
@@ -34,12 +33,37 @@ struct Timed {
     ticks: u64,
 }
 
-// The time of words and of bytes, and a number that is 0 where both find the same places.
+// The time of words and of bytes, and whether both find the same places.
 #[derive(Clone, Copy)]
 struct Turns {
     words: u64,
     bytes: u64,
-    other: u64,
+    same: bool,
+}
+
+// How a text is searched for the next of two bytes.
+trait Search {
+    fn next(text: &[u8], from: usize, a: u8, b: u8) -> usize
+        requires { from ≤ length text.now }
+        ensures { (from ≤ result) × (result ≤ length text.now) };
+}
+
+struct Words;
+
+struct Bytes;
+
+impl Search for Words {
+    #[tactic(auto, using(search::specs::Laws::next_within))]
+    fn next(text: &[u8], from: usize, a: u8, b: u8) -> usize {
+        next_of(text, from, a, b)
+    }
+}
+
+impl Search for Bytes {
+    #[tactic(auto, using(search::specs::Laws::next_within))]
+    fn next(text: &[u8], from: usize, a: u8, b: u8) -> usize {
+        by_bytes(text, from, a, b)
+    }
 }
 
 // ---- Texts
@@ -55,28 +79,20 @@ fn byte_at(spot: Spot) -> u8 {
 }
 
 // A field ends where it has no digit left, and a line where it has no field left. The next number of digits is drawn.
-fn advance(spot: Spot, shape: Shape) -> Spot {
+fn advance(spot: &mut Spot, shape: Shape) {
     if 0 < spot.digits {
-        return Spot {
-            number: spot.number,
-            digits: spot.digits - 1,
-            fields: spot.fields,
-        };
+        spot.digits -= 1;
+        return;
     }
-    let number = (spot.number % 2147483648 * 1103515245 + 12345) % 2147483648;
-    let digits = wrapping_add_u64(shape.least, number / 65536 % (wide8(shape.spread) + 1));
-    if 0 < spot.fields {
-        return Spot {
-            number,
-            digits,
-            fields: spot.fields - 1,
-        };
-    }
-    Spot {
-        number,
-        digits,
-        fields: shape.fields,
-    }
+    spot.number = (spot.number % 2147483648 * 1103515245 + 12345) % 2147483648;
+    spot.digits = shape
+        .least
+        .wrapping_add(spot.number / 65536 % (u64::from(shape.spread) + 1));
+    spot.fields = if 0 < spot.fields {
+        spot.fields - 1
+    } else {
+        shape.fields
+    };
 }
 
 fn fill(text: &mut [u8], shape: Shape) {
@@ -85,114 +101,95 @@ fn fill(text: &mut [u8], shape: Shape) {
         digits: shape.least,
         fields: shape.fields,
     };
-    let mut i = 0;
-    while i < text.len() {
-        text[i] = byte_at(spot);
-        spot = advance(spot, shape);
-        i += 1;
+    for b in text.iter_mut() {
+        *b = byte_at(spot);
+        advance(&mut spot, shape);
     }
 }
 
 // ---- The search
 
-fn next(text: &[u8], from: usize, a: u8, b: u8, words: bool) -> usize
-    requires { from ≤ length text.now }
-    ensures { (from ≤ result) × (result ≤ length text.now) }
-{
-    if words {
-        return next_of(text, from, a, b);
-    }
-    by_bytes(text, from, a, b)
-}
-
-// The sum of the places where the fields of a line end.
-fn part(line: &[u8], words: bool) -> u64 {
-    let mut sum = 0;
+// The sum of the places where the fields of a line end. Not by `split`: the search is what is timed.
+fn part<S: Search>(line: &[u8]) -> u64 {
+    let mut sum = 0u64;
     let mut at = 0;
     while at < line.len() {
-        let end = next(line, at, b'\t', b'\n', words);
-        sum = wrapping_add_u64(sum, end as u64);
+        let end = S::next(line, at, b'\t', b'\n');
+        sum = sum.wrapping_add(end as u64);
         at = end + 1;
     }
     sum
 }
 
 // The same of all lines from a place on.
-fn cut(text: &[u8], from: usize, words: bool) -> u64 {
-    let mut sum = 0;
+fn cut<S: Search>(text: &[u8], from: usize) -> u64 {
+    let mut sum = 0u64;
     let mut at = from;
     while at < text.len() {
-        let end = next(text, at, b'\n', b'\n', words);
-        let ends = part(&text[at..end], words);
-        sum = wrapping_add_u64(sum, ends);
+        let end = S::next(text, at, b'\n', b'\n');
+        sum = sum.wrapping_add(part::<S>(&text[at..end]));
         at = end + 1;
     }
     sum
 }
 
 // The same from each of the first eight places on, so that fields begin at every place of a word.
-fn cut_all(text: &[u8], words: bool) -> u64 {
-    let mut sum = 0;
-    for from in 0..8 {
-        let ends = cut(text, from, words);
-        sum = wrapping_add_u64(sum, ends);
-    }
-    sum
+fn cut_all<S: Search>(text: &[u8]) -> u64 {
+    (0..8).fold(0u64, |sum, from| sum.wrapping_add(cut::<S>(text, from)))
 }
 
 // ---- What is printed
 
 fn put_places(rt: &impl Print, text: &[u8]) -> io::Result<()> {
-    print!(rt; "\twords\t{}", cut_all(text, true))?;
-    print!(rt; "\tbytes\t{}", cut_all(text, false))
+    print!(rt; "\twords\t{}", cut_all::<Words>(text))?;
+    print!(rt; "\tbytes\t{}", cut_all::<Bytes>(text))
 }
 
 // The processor time used so far, in microseconds.
 fn ticks(rt: &impl CpuClock) -> io::Result<u64> {
     let used = rt.process_cpu_time()?;
     let whole = used.as_secs().wrapping_mul(1000000);
-    Ok(wrapping_add_u64(whole, used.subsec_micros() as u64))
+    Ok(whole.wrapping_add(u64::from(used.subsec_micros())))
 }
 
-fn run(rt: &impl CpuClock, text: &[u8], words: bool) -> io::Result<Timed> {
+fn run<S: Search>(rt: &impl CpuClock, text: &[u8]) -> io::Result<Timed> {
     let begin = ticks(rt)?;
-    let sum = cut_all(text, words);
+    let sum = cut_all::<S>(text);
     let end = ticks(rt)?;
     Ok(Timed {
         sum,
-        ticks: wrapping_sub_u64(end, begin),
+        ticks: end.wrapping_sub(begin),
     })
 }
 
 // Words and bytes, by turns.
 fn take_turns(rt: &impl CpuClock, text: &[u8]) -> io::Result<Turns> {
-    let mut words: u64 = 0;
-    let mut bytes: u64 = 0;
-    let mut other: u64 = 0;
-    for _ in 0..100u64 {
-        let x = run(rt, text, true)?;
-        let y = run(rt, text, false)?;
-        words = wrapping_add_u64(words, x.ticks);
-        bytes = wrapping_add_u64(bytes, y.ticks);
-        other = other | x.sum ^ y.sum;
+    let mut turns = Turns {
+        words: 0,
+        bytes: 0,
+        same: true,
+    };
+    for _ in 0..100 {
+        let x = run::<Words>(rt, text)?;
+        let y = run::<Bytes>(rt, text)?;
+        turns.words = turns.words.wrapping_add(x.ticks);
+        turns.bytes = turns.bytes.wrapping_add(y.ticks);
+        turns.same = turns.same && x.sum == y.sum;
     }
-    Ok(Turns {
-        words,
-        bytes,
-        other,
-    })
+    Ok(turns)
 }
 
 // How many times quicker words are, in hundredths.
 fn put_ratio(rt: &impl Print, turns: Turns) -> io::Result<()> {
     let ratio = turns.bytes / (turns.words / 100 + 1);
     print!(rt; "\t{}.{}{}", ratio / 100, ratio / 10 % 10, ratio % 10)?;
-    if turns.other != 0 {
+    if !turns.same {
         print!(rt; "\tother places")?;
     }
     Ok(())
 }
 
+// `ratios` is the program's argument and asked in this one place: a closure for each answer would be no plainer.
 fn try_text<R: Print + CpuClock>(
     rt: &R,
     name: &[u8],

@@ -58,6 +58,11 @@ pub capacity_one : (c : Costs) (w : ℕ) → capacity c 1 w ≡ first c w
 unfolding capacity
 capacity_one c w = omega arith
 
+-- No nodes leave the window as it is.
+pub left_no_node : (c : Costs) (w : ℕ) → left_after c 0 w ≡ w
+unfolding left_after
+left_no_node c w = refl
+
 -- What is left after k nodes and one more is what that one leaves.
 pub left_snoc : (c : Costs) (k w : ℕ) → left_after c (k + 1) w ≡ left c (left_after c k w) (first c (left_after c k w))
 unfolding left_after

@@ -1,15 +1,14 @@
 -- The fewest nodes, the earliest finish, and the shares that are booked: each is the least there is, and the shares are exact.
-use Rattle.std.specs.Prelude.{◌≡◌, ℕ, zero, suc, ◌+◌, ◌-◌, ◌*◌, ◌<◌, ◌≤◌, Bool, true, false, cond, ◌↔◌, List, length, nat_le}
+use Rattle.std.specs.Prelude.{◌≡◌, ℕ, zero, suc, ◌+◌, ◌-◌, ◌*◌, ◌<◌, ◌≤◌, Bool, true, false, cond, ◌↔◌, Option, Some, None, List, length, nat_le}
 use Rattle.std.proofs.Math.Path.{refl}
 use Rattle.std.proofs.Common.{ap, sym, subst, ◌∙◌, le_antisymm, mul-le-mul_right}
 use Rattle.std.proofs.Math.Nat.{sub-zero}
 use Rattle.std.proofs.Math.Decide.{dec_le}
 use native.Mathlib.Omega.{arith}
 use borrow.Author.Tests.{lt-leb, leb-true, leb-false}
+use Rattle.std.specs.Option.{option_or}
 use Rattle.shares.specs.declared.Costs.{Costs}
-use Rattle.shares.specs.declared.Fewest.{Fewest}
-use Rattle.shares.specs.declared.Fewest.TheVariants.{Nodes, None}
-use Rattle.shares.specs.Model.{finish, sum, first, capacity, greedy, or_else, fewest, earliest}
+use Rattle.shares.specs.Model.{finish, sum, first, capacity, greedy, fewest, earliest}
 use Rattle.shares.specs.Lists.{Positive, NoLarger, no_larger_both}
 use Rattle.shares.specs.Capacity.{capacity_one, first_most, first_fits, slack, longer, more_nodes, at_most_window}
 use Rattle.shares.specs.Optimal.{optimal, greedy_ends, greedy_sum, greedy_largest, greedy_length, greedy_positive}
@@ -118,8 +117,8 @@ module _ (c : Costs) (sends : 1 ≤ c.send) where
   -- ---- The fewest nodes
 
   -- what an answer of `fewest` says
-  abbrev Told : ℕ → ℕ → ℕ → Fewest → Type 0
-  Told n z w (Nodes k) = (k ≤ n) × IsFewest c z w k
+  abbrev Told : ℕ → ℕ → ℕ → Option ℕ → Type 0
+  Told n z w (Some k) = (k ≤ n) × IsFewest c z w k
   Told n z w None = capacity c n w < z
 
   -- A count that one node less would leave too few is the fewest.
@@ -130,37 +129,37 @@ module _ (c : Costs) (sends : 1 ≤ c.send) where
   unfolding fewest capacity
   told zero z w = go (nat_le z 0) refl
     where
-      go : (b : Bool) → nat_le z 0 ≡ b → Told zero z w (cond b (Nodes 0) None)
+      go : (b : Bool) → nat_le z 0 ≡ b → Told zero z w (cond b (Some 0) None)
       go true q = (omega arith, record { enough = leb-true _ _ q; least = λ j g. omega arith })
       go false q = leb-false _ _ q
   told (suc n) z w = go (fewest c n z w) (told n z w)
     where
-      last : (b : Bool) → nat_le z (capacity c (suc n) w) ≡ b → capacity c n w < z → Told (suc n) z w (cond b (Nodes (suc n)) None)
+      last : (b : Bool) → nat_le z (capacity c (suc n) w) ≡ b → capacity c n w < z → Told (suc n) z w (cond b (Some (suc n)) None)
       last true q h = (omega arith, fewest_nodes n z w h (leb-true _ _ q))
       last false q h = leb-false _ _ q
 
-      go : (f : Fewest) → Told n z w f → Told (suc n) z w (or_else f (cond (nat_le z (capacity c (suc n) w)) (Nodes (suc n)) None))
-      go (Nodes k) t = (omega arith, t.1)
+      go : (f : Option ℕ) → Told n z w f → Told (suc n) z w (option_or f (cond (nat_le z (capacity c (suc n) w)) (Some (suc n)) None))
+      go (Some k) t = (omega arith, t.1)
       go None t = last (nat_le z (capacity c (suc n) w)) refl t
 
   -- `fewest` answers the fewest nodes that hold the size, where there are no more than n.
-  pub fewest_is : (n z w k : ℕ) → IsFewest c z w k → k ≤ n → fewest c n z w ≡ Nodes k
+  pub fewest_is : (n z w k : ℕ) → IsFewest c z w k → k ≤ n → fewest c n z w ≡ Some k
   fewest_is n z w k i h = go (fewest c n z w) (told n z w)
     where
-      go : (f : Fewest) → Told n z w f → f ≡ Nodes k
-      go (Nodes j) t = ap Nodes (le_antisymm (t.1.least k i.enough) (i.least j t.1.enough))
+      go : (f : Option ℕ) → Told n z w f → f ≡ Some k
+      go (Some j) t = ap Some (le_antisymm (t.1.least k i.enough) (i.least j t.1.enough))
       go None t = absurd (omega (arith, i.enough, more_nodes c sends k n w h))
 
   -- An answer of `fewest` is the fewest nodes that hold the size.
-  pub fewest_least : (n z w k : ℕ) → fewest c n z w ≡ Nodes k → (k ≤ n) × IsFewest c z w k
+  pub fewest_least : (n z w k : ℕ) → fewest c n z w ≡ Some k → (k ≤ n) × IsFewest c z w k
   fewest_least n z w k e = subst (Told n z w) e (told n z w)
 
   -- `fewest` answers none exactly where n nodes do not hold the size.
   pub fewest_none : (n z w : ℕ) → capacity c n w < z → fewest c n z w ≡ None
   fewest_none n z w h = go (fewest c n z w) (told n z w)
     where
-      go : (f : Fewest) → Told n z w f → f ≡ None
-      go (Nodes j) t = absurd (omega (arith, t.1.enough, more_nodes c sends j n w t.0))
+      go : (f : Option ℕ) → Told n z w f → f ≡ None
+      go (Some j) t = absurd (omega (arith, t.1.enough, more_nodes c sends j n w t.0))
       go None t = refl
 
   pub fewest_short : (n z w : ℕ) → fewest c n z w ≡ None → capacity c n w < z

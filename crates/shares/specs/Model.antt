@@ -1,12 +1,10 @@
 -- The meaning of the share arithmetic, in the words and the order of document 01, "One job on n nodes".
 -- Everything here is a definition; nothing is assumed.
 -- `-` stops at 0 and `/` rounds down, so no case is needed where not even one unit fits.
-use Rattle.std.specs.Prelude.{ℕ, zero, suc, ◌+◌, ◌-◌, ◌*◌, ◌/◌, max, Bool, cond, ◌&&◌, List, [], ◌∷◌, ◌++◌, length, replicate, nat_le}
+use Rattle.std.specs.Prelude.{ℕ, zero, suc, ◌+◌, ◌-◌, ◌*◌, ◌/◌, max, Bool, cond, ◌&&◌, Option, Some, None, List, [], ◌∷◌, nat_le}
+use Rattle.std.specs.Option.{option_or}
 use Rattle.shares.specs.declared.Costs.{Costs}
 use Rattle.shares.specs.declared.Share.{Share}
-use Rattle.shares.specs.declared.Shares.{Shares}
-use Rattle.shares.specs.declared.Fewest.{Fewest}
-use Rattle.shares.specs.declared.Fewest.TheVariants.{Nodes, None}
 
 -- ---- One list of shares, its sends back to back
 
@@ -65,14 +63,10 @@ greedy c (suc n) w = cut (first c w) (greedy c n (left c w (first c w)))
 
 -- ---- A job of z units
 
-abbrev pub or_else : Fewest → Fewest → Fewest
-or_else (Nodes k) f = Nodes k
-or_else None f = f
-
 -- the fewest nodes, of at most n, that hold z units in w ticks
-unfoldable pub fewest : Costs → ℕ → ℕ → ℕ → Fewest
-fewest c zero z w = cond (nat_le z 0) (Nodes 0) None
-fewest c (suc n) z w = or_else (fewest c n z w) (cond (nat_le z (capacity c (suc n) w)) (Nodes (suc n)) None)
+unfoldable pub fewest : Costs → ℕ → ℕ → ℕ → Option ℕ
+fewest c zero z w = cond (nat_le z 0) (Some 0) None
+fewest c (suc n) z w = option_or (fewest c n z w) (cond (nat_le z (capacity c (suc n) w)) (Some (suc n)) None)
 
 -- the earliest finish: the least window, of at most w ticks, in which n nodes hold z units (w itself where none does)
 unfoldable pub earliest : Costs → ℕ → ℕ → ℕ → ℕ
@@ -89,15 +83,11 @@ answers c n = nat_le 1 c.send && nat_le n 64
 unfoldable pub next_of : Costs → ℕ → Share
 next_of c w = record { units = first c w; left = left c w (first c w) }
 
-unfoldable pub fewest_of : Costs → ℕ → ℕ → ℕ → Fewest
+unfoldable pub fewest_of : Costs → ℕ → ℕ → ℕ → Option ℕ
 fewest_of c n z w = cond (answers c n) (fewest c n z w) None
 
 unfoldable pub earliest_of : Costs → ℕ → ℕ → ℕ → ℕ
 earliest_of c n z w = cond (answers c n) (earliest c n z w) w
 
--- a share list in an array of 64, with its count
-unfoldable pub stored : List ℕ → Shares
-stored xs = record { units = xs ++ replicate (64 - length xs) 0; count = length xs }
-
-unfoldable pub shares_of : Costs → ℕ → ℕ → Shares
-shares_of c n w = stored (cond (answers c n) (greedy c n w) [])
+unfoldable pub shares_of : Costs → ℕ → ℕ → List ℕ
+shares_of c n w = cond (answers c n) (greedy c n w) []

@@ -1,5 +1,8 @@
 -- What the functions of src/begin.rt promise each other, and their loops' steps.
-use Rattle.std.specs.Prelude.{◌≡◌, refl, List, [], ◌∷◌, ◌++◌, ℕ, ◌+◌, ◌-◌, ◌≤◌, ◌<◌, length, get_or, take, drop}
+use Rattle.std.specs.Prelude.{◌≡◌, refl, List, [], ◌∷◌, ◌++◌, ℕ, ◌+◌, ◌*◌, ◌-◌, ◌≤◌, ◌<◌, length, get_or, take, drop}
+use Rattle.std.specs.List.{sum_by}
+use Rattle.std.proofs.Common.{ap, sym, ◌∙◌, arith}
+use Rattle.std.proofs.lemmas.List.Sums.{sum_by-cons}
 use borrow.Author.Tests.{le-leb, lt-leb}
 use Rattle.limits.specs.Model.{most_held}
 use Rattle.lists.specs.Laws.{All, front_next}
@@ -9,6 +12,7 @@ use Rattle.walk.specs.declared.Job.{Job}
 use Rattle.walk.specs.declared.FreeTimes.{FreeTimes}
 use Rattle.walk.specs.declared.Chunk.{Chunk}
 use Rattle.walk.specs.Model.{no_job, after, afters}
+use Rattle.walk.specs.View.{Few}
 use Rattle.walk.specs.Chunks.{Sendable}
 use Rattle.timetable.specs.Model.{starts_after}
 
@@ -16,6 +20,17 @@ use Rattle.timetable.specs.Model.{starts_after}
 unfoldable pub chunks : List Job → ℕ
 chunks [] = 0
 chunks (j ∷ js) = j.booking.count + chunks js
+
+-- They are the sum of the jobs' counts.
+pub chunks_sum : (js : List Job) → chunks js ≡ sum_by (λ (j : Job). j.booking.count) js
+unfolding chunks
+chunks_sum [] = refl
+chunks_sum (j ∷ js) = ap (λ (n : ℕ). j.booking.count + n) (chunks_sum js) ∙ sym (sum_by-cons (λ (i : Job). i.booking.count) j js)
+
+pub chunks_few : (js : List Job) → All Few js → chunks js ≤ 64 * length js
+unfolding chunks
+chunks_few [] h = omega arith
+chunks_few (j ∷ js) h = omega (arith, h.0, chunks_few js h.1)
 
 -- a job that can begin: its chunks can be worked out, its show has a cell, and the cell has room for what they add
 pub record Raises (c : FarmCosts) (held : List ℕ) (j : Job) : Type 0 where
@@ -40,10 +55,6 @@ afters_append b (x ∷ xs) ys = afters_append (after b x) xs ys
 module _ (jobs : List Job) (n i : ℕ) (h : i < n) (f : n ≤ length jobs) where
   abbrev jobs_next : drop i (take n jobs) ≡ get_or jobs i no_job ∷ drop (i + 1) (take n jobs)
   jobs_next = front_next no_job jobs n i h f
-
-  pub chunks_next : chunks (drop i (take n jobs)) ≡ (get_or jobs i no_job).booking.count + chunks (drop (i + 1) (take n jobs))
-  unfolding chunks
-  chunks_next = rw jobs_next
 
   -- It waits on, or has begun.
   pub keep_next : (t : ℕ) → t < (get_or jobs i no_job).booking.start

@@ -1,19 +1,22 @@
 -- What starts by a time, found in one pass over the jobs: what `due` promises, and its loop's steps.
 use Rattle.std.specs.Prelude.{◌≡◌, refl, Bool, true, false, cond, ℕ, suc, ◌+◌, ◌*◌, ◌≤◌, ◌<◌, min, leb, length, get_or, take, drop, set}
 use Rattle.std.proofs.Math.Path.{ap, subst}
-use Rattle.std.proofs.Common.{ap₂, sym, ◌∙◌, add-zero, arith}
+use Rattle.std.proofs.Common.{ap₂, sym, ◌∙◌, add-zero, take-take, length-take-le, arith}
 use mathlib.Core.List.Permᴰ
 use mathlib.Core.List.{List, [], ◌∷◌, Permᴰ}
 use Rattle.std.proofs.Math.Numerals.{add-one}
 use borrow.Author.Tests.{le-leb, lt-leb}
 use Rattle.lists.specs.Laws.{All, all_map, front_next, front_none}
+use Rattle.lists.specs.Places.{each_take}
 use Rattle.lists.specs.Keep.{keep, keep_all, keep_perm}
 use Rattle.lists.specs.Fronts.{Kept, kept_more, kept_front}
 use Rattle.keys.specs.declared.Key.{Key}
 use Rattle.keys.specs.Model.{no_later, sort_keys, sorted_front}
 use Rattle.keys.specs.Sorted.{Sorted, sort_perm, sort_sorted, sort_only, sort_all, front_sorted, front_length}
 use Rattle.walk.specs.declared.Job.{Job}
+use Rattle.walk.specs.declared.QueueEntry.{QueueEntry}
 use Rattle.walk.specs.Model.{no_job, keys_by, in_order, start_of, by_start}
+use Rattle.walk.specs.View.{job_at, jobs_of}
 use Rattle.walk.specs.Order.{by_start_perm}
 use Rattle.walk.specs.OrderSteps.{order_within, in_order_front}
 use Rattle.timetable.specs.declared.Due.{Due}
@@ -151,4 +154,21 @@ finding_all jobs n i t first keys order count lines e m f x o =
       jobs = ap (in_order jobs) is ∙ in_order_front jobs n (keep (timed_by t) ks) within ∙ in_order_keep t (take n jobs) ks starts;
       lines = omega (arith, sum, chunks_perm (keep_perm (starts_by t) (by_start_perm (take n jobs))));
       most = omega (arith, x.most);
+    }
+
+-- What is due of the front of a queue, as of the whole queue.
+pub due_front : (ks xs : List ℕ) (hs : List QueueEntry) (n t : ℕ) (r : Due) → n ≤ length hs → IsDue (jobs_of ks xs (take n hs)) (length (take n hs)) t r → IsDue (jobs_of ks xs hs) n t r
+due_front ks xs hs n t r h x =
+    let size : length (take n hs) ≡ n = length-take-le n hs h in
+    let few : r.count ≤ n = omega (arith, x.few, size) in
+    let places : All (λ (k : Key). k.place < n) (take r.count r.keys) = rw size at x.places in
+    let front : jobs_of ks xs (take n hs) ≡ take n (jobs_of ks xs hs) = sym (each_take (job_at ks xs) 0 n hs) in
+    let same : take n (jobs_of ks xs (take n hs)) ≡ take n (jobs_of ks xs hs) = ap (take n) front ∙ take-take n n (jobs_of ks xs hs) (omega arith) in
+    record {
+      few = few;
+      whole = x.whole;
+      places = places;
+      jobs = in_order_front (jobs_of ks xs hs) n (take r.count r.keys) places ∙ ap (λ (js : List Job). in_order js (take r.count r.keys)) (sym front) ∙ rw (size, same) at x.jobs;
+      lines = rw (size, same) at x.lines;
+      most = x.most;
     }

@@ -1,15 +1,14 @@
 -- Held ticks raised by a job's chunks, one by one.
-use Rattle.std.specs.Prelude.{◌≡◌, refl, List, [], ◌∷◌, ◌++◌, ℕ, zero, suc, ◌+◌, ◌*◌, ◌-◌, ◌≤◌, ◌<◌, length, get_or, set}
-use Rattle.std.proofs.Common.{ap, ◌∙◌, arith, length-set}
+use Rattle.std.specs.Prelude.{◌≡◌, refl, List, [], ◌∷◌, ◌++◌, ℕ, zero, suc, ◌+◌, ◌*◌, ◌-◌, ◌≤◌, length, get_or, set}
+use Rattle.std.proofs.Common.{ap, sym, ◌∙◌, arith, length-set}
 use Rattle.limits.specs.Model.{most_held}
 use Rattle.limits.specs.declared.FarmCosts.{FarmCosts}
-use Rattle.booking.specs.declared.Booking.{Booking}
-use Rattle.booking.specs.Best.{chosen, units}
 use Rattle.walk.specs.declared.Job.{Job}
 use Rattle.walk.specs.declared.Chunk.{Chunk}
 use Rattle.walk.specs.declared.ChunkTerms.{ChunkTerms}
-use Rattle.walk.specs.Model.{greatest, chunk_at, lines_of, latest}
-use Rattle.walk.specs.Chunks.{Sendable, lines_from, latest_from, lines_next, ends_next}
+use Rattle.walk.specs.Model.{greatest, chunk_on, chunks_from, lines_of, latest}
+use Rattle.walk.specs.Returning.{back_last}
+use Rattle.walk.specs.Chunks.{Sendable, chunks_next, finish_next}
 use Rattle.timetable.specs.Model.{holds, raised}
 use Rattle.timetable.specs.LinesSteps.{job_lines}
 
@@ -49,23 +48,27 @@ raise_most hs t k (x ∷ xs) e =
 pub job_most : (c : FarmCosts) (hs : List ℕ) (j : Job) (k : ℕ) → Sendable c j → get_or (raised hs (lines_of c j)) k 0 ≤ get_or hs k 0 + most_held
 job_most c hs j k x = omega (arith, x.few, job_lines c j x, raise_most hs j.booking.start k (lines_of c j) x.ends)
 
--- where the loop over a booking's chunks stands at chunk i, the send before it having ended at t: the chunks left raise
--- the cells to what all of them make of the first ones, and what has been added to the show's cell, at place p, is bounded
-pub record Raising (w : ChunkTerms) (b : Booking) (p : ℕ) (first cells : List ℕ) (t i : ℕ) : Type 0 where
-  pub same : raised first (lines_from w b 0 b.start) ≡ raised cells (lines_from w b i t)
-  pub ends : latest_from w b i t ≤ greatest
-  pub most : get_or cells p 0 ≤ get_or first p 0 + i * greatest
+-- where the loop over a job's chunks stands, the send before the ones left having ended at t: they raise the cells to what
+-- all of them make of the first ones, and what has been added to the show's cell, at place p, is bounded
+pub record Raising (w : ChunkTerms) (p : ℕ) (first : List ℕ) (all : List Chunk) (cells : List ℕ) (t : ℕ) (ks xs : List ℕ) : Type 0 where
+  pub same : raised first all ≡ raised cells (chunks_from w t ks xs)
+  pub ends : latest t (chunks_from w t ks xs) ≤ greatest
+  pub most : get_or cells p 0 + length ks * greatest ≤ get_or first p 0 + most_held
 
 -- The next chunk raises its show's cell.
-pub raising_next : (w : ChunkTerms) (b : Booking) → length (chosen b) ≡ b.count → length (units b) ≡ b.count
-    → (p : ℕ) → p ≡ w.show - 1 → (first cells : List ℕ) (t i : ℕ) → i < b.count → Raising w b p first cells t i
-    → Raising w b p first (add_to cells p (holds (chunk_at w b i t))) (chunk_at w b i t).sent (i + 1)
+pub raising_next : (w : ChunkTerms) (p : ℕ) → p ≡ w.show - 1 → (first : List ℕ) (all : List Chunk) (cells : List ℕ) (t : ℕ) (x : Chunk) (k a : ℕ) (ks xs ks' xs' : List ℕ) → x ≡ chunk_on w t k a → (ks ≡ k ∷ ks') × (xs ≡ a ∷ xs')
+    → Raising w p first all cells t ks xs → (x.finish ≤ greatest) × (x.computed ≤ x.finish) × Raising w p first all (add_to cells p (holds x)) x.sent ks' xs'
 unfolding raised
-raising_next w b n u p e first cells t i h x =
-    let k = ends_next w b n u i t h x.ends in
-    let more = add_most cells p p (holds (chunk_at w b i t)) in
-    record {
-      same = x.same ∙ ap (raised cells) (lines_next w b n u i t h) ∙ rw e;
-      ends = k.1;
-      most = omega (arith, more, x.most, k.0);
-    }
+raising_next w p e first all cells t x k a ks xs ks' xs' is steps r =
+    let late = finish_next w t x k a ks xs ks' xs' is steps in
+    let one : x.finish ≤ greatest = omega (arith, late, r.ends) in
+    let last : x.computed ≤ x.finish = rw is (omega (arith, back_last w.costs w.compute t a)) in
+    let show : x.show - 1 ≡ p = ap (λ (y : Chunk). y.show - 1) is ∙ sym e in (
+      one,
+      last,
+      record {
+        same = r.same ∙ ap (raised cells) (chunks_next w t x k a ks xs ks' xs' is steps) ∙ ap (λ (q : ℕ). raised (add_to cells q (holds x)) (chunks_from w x.sent ks' xs')) show;
+        ends = omega (arith, late, r.ends);
+        most = omega (arith, add_most cells p p (holds x), r.most, ap length steps.0);
+      },
+    )

@@ -1,10 +1,10 @@
 -- Lines in lent memory, one by one: what the functions of src/lines.rt promise each other.
 use Rattle.std.specs.Prelude.{◌≡◌, refl, ℕ, suc, ◌+◌, ◌-◌, ◌≤◌, ◌<◌, get_or, take, drop, set}
 use Rattle.std.proofs.Math.Path.{ap}
-use Rattle.std.proofs.Common.{sym, subst, ◌∙◌, arith, length-append, length-drop, take-append-drop, take-suc-set, drop-set-lt, drop-drop, length-take-le, take_at, drop_at}
+use Rattle.std.proofs.Common.{sym, subst, ◌∙◌, add-one, drop-cons, drop_of_length-le, arith, length-append, length-drop, take-append-drop, take-suc-set, drop-set-lt, drop-drop, length-take-le, take_at, drop_at}
 use mathlib.Core.List.{List, [], ◌∷◌, ◌++◌, map, append_assoc}
 use Rattle.std.proofs.Math.ListN.{length, length-map}
-use Rattle.lists.specs.Laws.{All, all_front, image_all, map_join, front_next, front_none}
+use Rattle.lists.specs.Laws.{All, all_nth, image_all, map_join}
 use Rattle.limits.specs.declared.FarmCosts.{FarmCosts}
 use Rattle.keys.specs.declared.Key.{Key}
 use Rattle.keys.specs.Model.{no_key}
@@ -12,13 +12,12 @@ use Rattle.walk.specs.declared.Job.{Job}
 use Rattle.walk.specs.declared.QueueEntry.{QueueEntry}
 use Rattle.walk.specs.declared.Chunk.{Chunk}
 use Rattle.walk.specs.declared.ChunkTerms.{ChunkTerms}
-use Rattle.walk.specs.Model.{no_job, chunk_terms, chunk_on, chunk_at, chunks_from, lines_of, in_order}
+use Rattle.walk.specs.Model.{no_job, chunk_terms, chunk_on, chunks_from, lines_of, in_order}
 use Rattle.walk.specs.View.{job_at, jobs_of, no_entry, job_there}
 use Rattle.walk.specs.OrderSteps.{PlacesWithin}
-use Rattle.walk.specs.Chunks.{Sendable, lines_from, lines_none, lines_next}
-use Rattle.booking.specs.declared.Booking.{Booking}
+use Rattle.walk.specs.Chunks.{Sendable, chunks_next}
 use Rattle.booking.specs.Best.{chosen, units}
-use Rattle.timetable.specs.Model.{lines_of_all, chunk_row}
+use Rattle.timetable.specs.Model.{lines_of_all}
 use Rattle.timetable.specs.BeginSteps.{chunks}
 
 -- memory of which the first n records stand, then come these lines, and from place e on it is what it is
@@ -35,31 +34,15 @@ filled_next l at i e x xs ys q h k =
 pub filled_all : {A : Type 0} (l : List A) (e : ℕ) → Filled l e [] e ≡ l
 filled_all l e = take-append-drop e l
 
--- A booking with a node and a share for each chunk.
-module _ (w : ChunkTerms) (b : Booking) (n : length (chosen b) ≡ b.count) (u : length (units b) ≡ b.count) (at : ℕ) where
-  abbrev end : ℕ
-  end = at + b.count
+-- The next chunk's line is stored, in whatever form, where the chunks left have these nodes and shares and their lines fill the memory to `all`.
+pub line_next : {L : Type 0} (f : Chunk → L) (all out : List L) (at i e : ℕ) (w : ChunkTerms) (t : ℕ) (x : Chunk) (k a : ℕ) (ks xs ks' xs' : List ℕ) → x ≡ chunk_on w t k a → (ks ≡ k ∷ ks') × (xs ≡ a ∷ xs')
+    → at + i < e → e ≤ length out → all ≡ Filled out (at + i) (map f (chunks_from w t ks xs)) e → all ≡ Filled (set out (at + i) (f x)) (at + (i + 1)) (map f (chunks_from w x.sent ks' xs')) e
+line_next f all out at i e w t x k a ks xs ks' xs' is steps h l same =
+    same ∙ filled_next out at i e (f x) (map f (chunks_from w x.sent ks' xs')) (map f (chunks_from w t ks xs)) (ap (map f) (chunks_next w t x k a ks xs ks' xs' is steps)) h l
 
-  -- Its lines, one further: as records, and as rows.
-  pub job_next : (l : List Chunk) → end ≤ length l → (i t : ℕ) → i < b.count
-      → Filled l (at + i) (lines_from w b i t) end
-      ≡ Filled (set l (at + i) (chunk_at w b i t)) (at + (i + 1)) (lines_from w b (i + 1) (chunk_at w b i t).sent) end
-  job_next l k i t h =
-      let rest = lines_from w b (i + 1) (chunk_at w b i t).sent in
-      filled_next l at i end (chunk_at w b i t) rest (lines_from w b i t) (lines_next w b n u i t h) (omega arith) k
-
-  pub row_next : (l : List (List ℕ)) → end ≤ length l → (i t : ℕ) → i < b.count
-      → Filled l (at + i) (map chunk_row (lines_from w b i t)) end
-      ≡ Filled (set l (at + i) (chunk_row (chunk_at w b i t))) (at + (i + 1)) (map chunk_row (lines_from w b (i + 1) (chunk_at w b i t).sent)) end
-  row_next l k i t h =
-      let rest = map chunk_row (lines_from w b (i + 1) (chunk_at w b i t).sent) in
-      filled_next l at i end (chunk_row (chunk_at w b i t)) rest (map chunk_row (lines_from w b i t)) (ap (map chunk_row) (lines_next w b n u i t h)) (omega arith) k
-
-  pub job_written : (l : List Chunk) (t : ℕ) → Filled l end (lines_from w b b.count t) end ≡ l
-  job_written l t = ap (λ (xs : List Chunk). Filled l end xs end) (lines_none w b n u b.count t (omega arith)) ∙ filled_all l end
-
-  pub row_written : (l : List (List ℕ)) (i t : ℕ) → b.count ≡ i → Filled l (at + i) (map chunk_row (lines_from w b i t)) end ≡ l
-  row_written l i t e = rw (← e, lines_none w b n u b.count t (omega arith)) (filled_all l end)
+-- All are.
+pub line_done : {L : Type 0} (f : Chunk → L) (all out : List L) (n e : ℕ) (left : List Chunk) → left ≡ [] → n ≡ e → all ≡ Filled out n (map f left) e → out ≡ all
+line_done f all out n e left none full same = sym (same ∙ rw (none, full) (filled_all out e))
 
 -- ---- Several jobs
 
@@ -98,90 +81,76 @@ pub filled_length : {A : Type 0} (l xs : List A) (n m : ℕ) → length xs ≡ m
 filled_length l xs n m f h =
     length-append (take n l) (xs ++ drop (n + m) l) ∙ omega (arith, f, length-append xs (drop (n + m) l), length-take-le n l (omega arith), length-drop (n + m) l)
 
--- The first n jobs of an array, of which the one at place k comes next.
-module _ (c : FarmCosts) (jobs : List Job) (n k : ℕ) (h : k < n) (f : n ≤ length jobs) where
-  abbrev next : Job
-  next = get_or jobs k no_job
-
-  -- Its lines are stored, and those of the others come next.
-  pub stored_next : (l : List Chunk) (at e : ℕ) → All (Sendable c) (take n jobs) → at + next.booking.count ≤ e → e ≤ length l
-      → Filled l at (lines_of_all c (drop k (take n jobs))) e
-      ≡ Filled (Filled l at (lines_of c next) (at + next.booking.count)) (at + next.booking.count) (lines_of_all c (drop (k + 1) (take n jobs))) e
-  unfolding lines_of_all
-  stored_next l at e a b d =
-      ap (λ (js : List Job). Filled l at (lines_of_all c js) e) (front_next no_job jobs n k h f)
-      ∙ filled_more l (lines_of c next) (lines_of_all c (drop (k + 1) (take n jobs))) at next.booking.count e (job_lines c next (all_front no_job (Sendable c) jobs n k h f a)) b d
-
-pub all_stored : (c : FarmCosts) (jobs : List Job) (n k : ℕ) (l : List Chunk) (e : ℕ) → n ≤ k → n ≤ length jobs → Filled l e (lines_of_all c (drop k (take n jobs))) e ≡ l
-unfolding lines_of_all
-all_stored c jobs n k l e h f =
-    ap (λ (js : List Job). Filled l e (lines_of_all c js) e) (front_none jobs n k f h) ∙ filled_all l e
-
-pub chunks_none : (jobs : List Job) (n k : ℕ) → n ≤ k → n ≤ length jobs → chunks (drop k (take n jobs)) ≡ 0
-unfolding chunks
-chunks_none jobs n k h f = ap chunks (front_none jobs n k f h)
-
 -- ---- The jobs that keys name
 
--- The first n keys, of which key k comes next.
-module _ (keys : List Key) (n k : ℕ) (h : k < n) (f : n ≤ length keys) where
+-- Keys, of which key k comes next.
+module _ (keys : List Key) (k : ℕ) (h : k < length keys) where
   abbrev place : ℕ
   place = (get_or keys k no_key).place
 
-  pub place_within : PlacesWithin (take n keys) → place < 128
-  place_within a = all_front no_key (λ (x : Key). x.place < 128) keys n k h f a
-
-  -- Of a queue it names an entry with its row.
-  pub named_entry : (ks xs : List ℕ) (hs : List QueueEntry) → length hs ≡ 128 → PlacesWithin (take n keys) → get_or (jobs_of ks xs hs) place no_job ≡ job_at ks xs place (get_or hs place no_entry)
-  named_entry ks xs hs l a = job_there ks xs hs place (omega (arith, place_within a))
+  pub place_within : PlacesWithin keys → place < 128
+  place_within a = all_nth no_key (λ (x : Key). x.place < 128) keys k a h
 
   module _ (jobs : List Job) (j : Job) (q : get_or jobs place no_job ≡ j) where
     -- The job that it names is followed by those of the keys after it.
-    pub named_next : in_order jobs (drop k (take n keys)) ≡ j ∷ in_order jobs (drop (k + 1) (take n keys))
-    named_next = ap (in_order jobs) (front_next no_key keys n k h f) ∙ ap (λ (a : Job). a ∷ in_order jobs (drop (k + 1) (take n keys))) q
+    named_next : in_order jobs (drop k keys) ≡ j ∷ in_order jobs (drop (k + 1) keys)
+    named_next = ap (in_order jobs) (rw (← add-one k) at (drop-cons keys k no_key h)) ∙ ap (λ (a : Job). a ∷ in_order jobs (drop (k + 1) keys)) q
 
     -- What holds of all named jobs holds of it.
-    pub named_all : (P : Job → Type 0) → All P (in_order jobs (take n keys)) → P j
-    named_all P a = subst P q (all_front no_key (λ (x : Key). P (get_or jobs x.place no_job)) keys n k h f (image_all P (λ (x : Key). get_or jobs x.place no_job) (take n keys) a))
+    named_all : (P : Job → Type 0) → All P (in_order jobs keys) → P j
+    named_all P a = subst P q (all_nth no_key (λ (x : Key). P (get_or jobs x.place no_job)) keys k (image_all P (λ (x : Key). get_or jobs x.place no_job) keys a) h)
 
--- ---- Their lines, as rows
+  -- Of a queue it names an entry with its row.
+  module _ (ks xs : List ℕ) (hs : List QueueEntry) (l : length hs ≡ 128) (within : PlacesWithin keys) where
+    abbrev entry : Job
+    entry = job_at ks xs place (get_or hs place no_entry)
 
--- where the loop over the first n keys stands at key k, with `at` rows written: those left fill the memory to what all make of the first
-pub record Writing (c : FarmCosts) (jobs : List Job) (keys : List Key) (n : ℕ) (first rows : List (List ℕ)) (at k : ℕ) : Type 0 where
-  pub size : length rows ≡ length first
-  pub same : Filled first 0 (map chunk_row (lines_of_all c (in_order jobs (take n keys)))) (chunks (in_order jobs (take n keys)))
-      ≡ Filled rows at (map chunk_row (lines_of_all c (in_order jobs (drop k (take n keys))))) (chunks (in_order jobs (take n keys)))
-  pub left : at + chunks (in_order jobs (drop k (take n keys))) ≡ chunks (in_order jobs (take n keys))
+    there : get_or (jobs_of ks xs hs) place no_job ≡ entry
+    there = job_there ks xs hs place (omega (arith, place_within within))
 
-module _ (c : FarmCosts) (jobs : List Job) (keys : List Key) (n k : ℕ) (h : k < n) (f : n ≤ length keys) (j : Job) (q : get_or jobs (get_or keys k no_key).place no_job ≡ j) (first rows : List (List ℕ)) (at : ℕ) (x : Writing c jobs keys n first rows at k) where
-  -- The next job's lines have room.
-  pub writing_room : at + j.booking.count ≤ chunks (in_order jobs (take n keys))
-  unfolding chunks
-  writing_room = omega (arith, x.left, ap chunks (named_next keys n k h f jobs j q))
+    pub entry_next : in_order (jobs_of ks xs hs) (drop k keys) ≡ entry ∷ in_order (jobs_of ks xs hs) (drop (k + 1) keys)
+    entry_next = named_next (jobs_of ks xs hs) entry there
 
-  -- They are written, and those of the others come next.
-  pub writing_next : Sendable c j → chunks (in_order jobs (take n keys)) ≤ length first
-      → Writing c jobs keys n first (Filled rows at (map chunk_row (lines_of c j)) (at + j.booking.count)) (at + j.booking.count) (k + 1)
-  unfolding lines_of_all chunks
-  writing_next s fits =
-      let size = x.size in
-      let room = writing_room in
-      let rest = in_order jobs (drop (k + 1) (take n keys)) in
-      let next = named_next keys n k h f jobs j q in
-      let many : length (map chunk_row (lines_of c j)) ≡ j.booking.count = length-map (lines_of c j) chunk_row ∙ job_lines c j s in
-      let split : map chunk_row (lines_of_all c (in_order jobs (drop k (take n keys)))) ≡ map chunk_row (lines_of c j) ++ map chunk_row (lines_of_all c rest) = rw next (map_join chunk_row (lines_of c j) (lines_of_all c rest)) in
-      record {
-        size = filled_length rows (map chunk_row (lines_of c j)) at j.booking.count many (omega arith) ∙ size;
-        same = x.same ∙ rw split (filled_more rows (map chunk_row (lines_of c j)) (map chunk_row (lines_of_all c rest)) at j.booking.count (chunks (in_order jobs (take n keys))) many room (omega arith));
-        left = omega (arith, x.left, ap chunks next);
-      }
+    pub entry_all : (P : Job → Type 0) → All P (in_order (jobs_of ks xs hs) keys) → P entry
+    entry_all P a = named_all (jobs_of ks xs hs) entry there P a
 
--- At the end all rows are written.
-pub writing_all : (c : FarmCosts) (jobs : List Job) (keys : List Key) (n k : ℕ) (first rows : List (List ℕ)) (at : ℕ) → n ≤ k → n ≤ length keys → Writing c jobs keys n first rows at k
-    → rows ≡ Filled first 0 (map chunk_row (lines_of_all c (in_order jobs (take n keys)))) (chunks (in_order jobs (take n keys)))
-unfolding lines_of_all chunks
-writing_all c jobs keys n k first rows at h f x =
-    let none = front_none keys n k f h in
-    let e : at + 0 ≡ chunks (in_order jobs (take n keys)) = rw none at x.left in
-    let g : at ≡ chunks (in_order jobs (take n keys)) = omega arith in
-    sym (x.same ∙ rw (none, g) (filled_all rows (chunks (in_order jobs (take n keys)))))
+-- No key, no job.
+pub named_none : (jobs : List Job) (keys : List Key) (k : ℕ) → length keys ≤ k → in_order jobs (drop k keys) ≡ []
+named_none jobs keys k h = ap (in_order jobs) (drop_of_length-le keys {i = k} h)
+
+-- ---- Their lines
+
+module _ {L : Type 0} (f : Chunk → L) (c : FarmCosts) (js : List Job) where
+  -- where a loop over these jobs stands, with `at` lines written: those left fill the memory to what all make of the first
+  pub record Writing (first out : List L) (at : ℕ) (left : List Job) : Type 0 where
+    pub size : length out ≡ length first
+    pub same : Filled first 0 (map f (lines_of_all c js)) (chunks js) ≡ Filled out at (map f (lines_of_all c left)) (chunks js)
+    pub rest : at + chunks left ≡ chunks js
+
+  module _ (first out : List L) (at : ℕ) (left : List Job) (x : Writing first out at left) where
+    -- The next job's lines have room.
+    pub writing_room : (j : Job) (later : List Job) → left ≡ j ∷ later → at + j.booking.count ≤ chunks js
+    unfolding chunks
+    writing_room j later e = omega (arith, x.rest, ap chunks e)
+
+    -- They are written, and those of the others come next.
+    pub writing_next : (j : Job) (later : List Job) → left ≡ j ∷ later → Sendable c j → chunks js ≤ length first
+        → Writing first (Filled out at (map f (lines_of c j)) (at + j.booking.count)) (at + j.booking.count) later
+    unfolding lines_of_all chunks
+    writing_next j later e s fits =
+        let size = x.size in
+        let many : length (map f (lines_of c j)) ≡ j.booking.count = length-map (lines_of c j) f ∙ job_lines c j s in
+        let split : map f (lines_of_all c left) ≡ map f (lines_of c j) ++ map f (lines_of_all c later) = rw e (map_join f (lines_of c j) (lines_of_all c later)) in
+        record {
+          size = filled_length out (map f (lines_of c j)) at j.booking.count many (omega (arith, size, writing_room j later e)) ∙ size;
+          same = x.same ∙ rw split (filled_more out (map f (lines_of c j)) (map f (lines_of_all c later)) at j.booking.count (chunks js) many (writing_room j later e) (omega (arith, size)));
+          rest = omega (arith, x.rest, ap chunks e);
+        }
+
+    -- At the end all are written.
+    pub writing_all : left ≡ [] → out ≡ Filled first 0 (map f (lines_of_all c js)) (chunks js)
+    unfolding lines_of_all chunks
+    writing_all none =
+        let e : at + 0 ≡ chunks js = rw none at x.rest in
+        let g : at ≡ chunks js = omega arith in
+        sym (x.same ∙ rw (none, g) (filled_all out (chunks js)))

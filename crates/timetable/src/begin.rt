@@ -1,5 +1,5 @@
 // What begins by a time, and the free times and held ticks that it leaves.
-ghost use Rattle.std.specs.Prelude.{◌≡◌, List, ℕ, ◌≤◌, ◌<◌, length, take};
+ghost use Rattle.std.specs.Prelude.{◌≡◌, List, ℕ, ◌≤◌, ◌<◌, length};
 ghost use Rattle.lists.specs.Laws.{All};
 ghost use Rattle.walk.specs.Model.{afters, lines_of, in_order};
 ghost use Rattle.walk.specs.View.{job_at, jobs_of, Short, Few};
@@ -8,10 +8,10 @@ ghost use Rattle.timetable.specs.BeginSteps.{chunks, Raises, RaisesAll};
 ghost use Rattle.timetable.specs.DueSteps.{IsDue};
 
 use crate::Due;
+use booking::Cells;
 use keys::Key;
 use limits::FarmCosts;
-use numbers::difference;
-use walk::{FreeTimes, Job, QueueEntry, chunk_on, entry_terms, occupied};
+use walk::{FreeTimes, Job, QueueEntry, chunk_on, chunk_terms, occupied, row};
 
 // What jobs leave once they have begun: the free times, and the held ticks.
 #[derive(Clone, Copy)]
@@ -20,111 +20,75 @@ pub struct Begun {
     pub held: [u64; 32],
 }
 
-// Of the first `waiting` jobs those that start by `time`. One pass, so that a move that begins nothing sorts nothing.
-// It reads no cell, so what it promises holds whatever the rows hold.
-pub fn due(jobs: [QueueEntry; 128], waiting: usize, time: u64) -> Due
-    requires { (waiting ≤ 128) × All Short (take waiting jobs) }
-    ensures { (ks xs : List ℕ) → IsDue (jobs_of ks xs jobs) waiting time result }
+// Of some jobs those that start by `time`. One pass, so that a move that begins nothing sorts nothing. It reads no
+// cell, so what it promises holds whatever the rows hold.
+pub fn due(jobs: &[QueueEntry], time: u64) -> Due
+    requires { (length jobs.now ≤ 128) × All Short jobs.now }
+    ensures { (ks xs : List ℕ) → IsDue (jobs_of ks xs jobs.now) (length jobs.now) time result }
 {
-    let mut keys = [Key {
-        time: 0,
-        number: 0,
-        place: 0,
-    }; 128];
-    let mut count: usize = 0;
-    let mut lines: usize = 0;
-    let mut i: usize = 0;
-    while i < waiting {
-        let job = jobs[i];
+    let mut keys = [Key::default(); 128];
+    let mut count = 0;
+    let mut lines = 0;
+    for (place, job) in jobs.iter().enumerate() {
         if job.start <= time {
             keys[count] = Key {
                 time: job.start,
                 number: job.number,
-                place: i,
+                place,
             };
             count += 1;
             lines += job.count;
         }
-        i += 1;
     }
-    let order = keys::sorted(keys, count);
     Due {
         count,
         lines,
-        keys: order,
+        keys: keys::sorted(keys, count),
     }
 }
 
-// How many lines the first `count` jobs have.
-pub fn line_count(jobs: [Job; 128], count: usize) -> usize
-    requires { (count ≤ 128) × All Few (take count jobs) }
-    ensures { (result ≡ chunks (take count jobs)) × (result ≤ 8192) }
+// How many lines some jobs have.
+pub fn line_count(jobs: &[Job]) -> usize
+    requires { (length jobs.now ≤ 128) × All Few jobs.now }
+    ensures { (result ≡ chunks jobs.now) × (result ≤ 8192) }
 {
-    let mut lines = 0;
-    let mut i = 0;
-    while i < count {
-        let job = jobs[i];
-        let booking = job.booking;
-        lines += booking.count;
-        i += 1;
-    }
-    lines
+    jobs.iter().map(|job| job.booking.count).sum()
 }
 
 // Raises the held ticks of the show of the job at a place: each of its chunks adds its finish minus the start of its
 // own send.
-pub fn raise<'a>(
-    costs: FarmCosts,
-    job: QueueEntry,
-    nodes: &'a [u8; 8192],
-    shares: &'a [u32; 8192],
-    place: usize,
-    held: &mut [u64; 32],
-)
-    requires { (place < 128) × (length nodes.now ≡ 8192) × (length shares.now ≡ 8192) × Raises costs held.old (job_at nodes.now shares.now place job) }
-    ensures { held.new ≡ raised held.old (lines_of costs (job_at nodes.now shares.now place job)) }
+pub fn raise(costs: FarmCosts, job: QueueEntry, cells: &Cells, place: usize, held: &mut [u64; 32])
+    requires { (place < 128) × Raises costs held.old (job_at cells.now.nodes cells.now.shares place job) }
+    ensures { held.new ≡ raised held.old (lines_of costs (job_at cells.now.nodes cells.now.shares place job)) }
 {
-    let at = place * 64;
     let cell = (job.show - 1) as usize;
-    let terms = entry_terms(costs, job);
+    let terms = chunk_terms(costs, &job);
+    let (nodes, shares) = row(cells, place, job.count);
     let mut last = job.start;
-    let mut i = 0;
-    while i < job.count {
-        let chunk = chunk_on(terms, nodes[at + i], shares[at + i], last);
-        held[cell] = held[cell] + difference(chunk.finish, chunk.start);
+    for (&node, &units) in nodes.iter().zip(shares) {
+        let chunk = chunk_on(terms, node, units, last);
+        held[cell] += chunk.finish.saturating_sub(chunk.start);
         last = chunk.sent;
-        i += 1;
     }
 }
 
-// The free times and the held ticks once the jobs that the first `count` keys name have begun, one after the other.
-pub fn begun_by<'a>(
+// The free times and the held ticks once the jobs that some keys name have begun, one after the other.
+pub fn begun_by(
     costs: FarmCosts,
     times: FreeTimes,
     held: [u64; 32],
-    jobs: [QueueEntry; 128],
-    nodes: &'a [u8; 8192],
-    shares: &'a [u32; 8192],
-    keys: [Key; 128],
-    count: usize,
+    jobs: &[QueueEntry; 128],
+    cells: &Cells,
+    keys: &[Key],
 ) -> Begun
-    requires { (count ≤ 128) × (length nodes.now ≡ 8192) × (length shares.now ≡ 8192) × All (λ (k : Key). k.place < 128) (take count keys) × RaisesAll costs held (in_order (jobs_of nodes.now shares.now jobs) (take count keys)) }
-    ensures { (result.times ≡ afters times (lines_of_all costs (in_order (jobs_of nodes.now shares.now jobs) (take count keys)))) × (result.held ≡ raised held (lines_of_all costs (in_order (jobs_of nodes.now shares.now jobs) (take count keys)))) × (length result.held ≡ 32) }
+    requires { (length keys.now ≤ 128) × All (λ (k : Key). k.place < 128) keys.now × RaisesAll costs held (in_order (jobs_of cells.now.nodes cells.now.shares jobs.now) keys.now) }
+    ensures { (result.times ≡ afters times (lines_of_all costs (in_order (jobs_of cells.now.nodes cells.now.shares jobs.now) keys.now))) × (result.held ≡ raised held (lines_of_all costs (in_order (jobs_of cells.now.nodes cells.now.shares jobs.now) keys.now))) × (length result.held ≡ 32) }
 {
-    let mut free = times.free;
-    let mut link = times.link;
-    let mut cells = held;
-    let mut i = 0;
-    while i < count {
-        let key = keys[i];
-        let place = key.place;
-        let job = jobs[place];
-        link = occupied(costs, link, job, nodes, shares, place, &mut free);
-        raise(costs, job, nodes, shares, place, &mut cells);
-        i += 1;
+    let mut begun = Begun { times, held };
+    for key in keys {
+        let job = jobs[key.place];
+        occupied(costs, job, cells, key.place, &mut begun.times);
+        raise(costs, job, cells, key.place, &mut begun.held);
     }
-    Begun {
-        times: FreeTimes { link, free },
-        held: cells,
-    }
+    begun
 }

@@ -8,6 +8,8 @@ pub mod lines;
 use keys::Key;
 
 // What a move to a time begins: how many jobs, with how many lines, and the jobs' keys in order of start.
+// `IsDue` (specs/DueSteps.antt) speaks of count and keys; and a `Move` can be copied, which one with an ArrayVec
+// cannot.
 #[derive(Clone, Copy)]
 pub struct Due {
     pub count: usize,

@@ -1,6 +1,6 @@
 -- What the walk of the queue's entries is to a caller with rows of its own: the walk of the jobs that these mean, and
 -- the plan, once the walk's rows are taken over.
-use Rattle.std.specs.Prelude.{◌≡◌, refl, List, [], ◌∷◌, ◌++◌, map, true, ℕ, zero, suc, ◌+◌, get_or, take, drop}
+use Rattle.std.specs.Prelude.{◌≡◌, refl, List, [], ◌∷◌, ◌++◌, map, ℕ, zero, suc, ◌+◌, get_or, take, drop}
 use Rattle.std.proofs.Common.{sym, ap, ap₂, ◌∙◌, arith, take-append-drop}
 use Rattle.lists.specs.Places.{each_at, each_take, each_drop}
 use Rattle.lists.specs.Rows.{Alike}
@@ -10,10 +10,9 @@ use Rattle.walk.specs.declared.Job.{Job}
 use Rattle.walk.specs.declared.QueueEntry.{QueueEntry}
 use Rattle.walk.specs.declared.WalkTerms.{WalkTerms}
 use Rattle.walk.specs.declared.FreeTimes.{FreeTimes}
-use Rattle.walk.specs.declared.Plan.{Plan}
 use Rattle.walk.specs.Model.{no_job, keys_by, in_order, deadline_of, by_deadline, plan, books_all}
 use Rattle.walk.specs.View.{job_at, jobs_of, bare, bared, use_of, plan_bared, books_bared, bared_jobs, alike_jobs, behind_jobs}
-use Rattle.walk.specs.WalkSteps.{Walked}
+use Rattle.walk.specs.WalkSteps.{Planned}
 
 -- ---- By deadline, whatever the bookings
 
@@ -51,14 +50,14 @@ books_by_bared w b js = sym (books_bared w b (by_deadline js)) ∙ ap (books_all
 -- ---- The walk's rows taken over
 
 -- The entries that a walk hands back, with the rows taken over, are the plan, and behind it the jobs that were there.
-pub taken_plan : (w : WalkTerms) (b : FreeTimes) (jobs : List QueueEntry) (n : ℕ) (r : Plan) (tks txs ks xs ks' xs' : List ℕ) → Walked w b jobs n r tks txs → r.ok ≡ true
-    → Alike 64 (use_of r.jobs) n ks tks ks' → Alike 64 (use_of r.jobs) n xs txs xs'
-    → jobs_of ks' xs' r.jobs ≡ plan w b (by_deadline (map bare (take n jobs))) ++ drop n (jobs_of ks xs jobs)
-taken_plan w b jobs n r tks txs ks xs ks' xs' v ok s t =
-    let front : take n (jobs_of ks' xs' r.jobs) ≡ plan w b (by_deadline (map bare (take n jobs))) = alike_jobs r.jobs n ks xs tks txs ks' xs' s t ∙ v.plans ok in
-    let back : drop n (jobs_of ks' xs' r.jobs) ≡ drop n (jobs_of ks xs jobs) =
-    each_drop (job_at ks' xs') 0 n r.jobs
-    ∙ behind_jobs ks xs ks' xs' (0 + n) (drop n r.jobs) (λ j k. s.behind j (omega arith)) (λ j k. t.behind j (omega arith))
-    ∙ ap (each_at (job_at ks xs) (0 + n)) (v.rest ok)
+pub taken_plan : (w : WalkTerms) (b : FreeTimes) (jobs : List QueueEntry) (n : ℕ) (plans : List QueueEntry) (tks txs ks xs ks' xs' : List ℕ) → Planned w b jobs n tks txs plans
+    → Alike 64 (use_of plans) n ks tks ks' → Alike 64 (use_of plans) n xs txs xs'
+    → jobs_of ks' xs' plans ≡ plan w b (by_deadline (map bare (take n jobs))) ++ drop n (jobs_of ks xs jobs)
+taken_plan w b jobs n plans tks txs ks xs ks' xs' v s t =
+    let front : take n (jobs_of ks' xs' plans) ≡ plan w b (by_deadline (map bare (take n jobs))) = alike_jobs plans n ks xs tks txs ks' xs' s t ∙ v.jobs_are in
+    let back : drop n (jobs_of ks' xs' plans) ≡ drop n (jobs_of ks xs jobs) =
+    each_drop (job_at ks' xs') 0 n plans
+    ∙ behind_jobs ks xs ks' xs' (0 + n) (drop n plans) (λ j k. s.behind j (omega arith)) (λ j k. t.behind j (omega arith))
+    ∙ ap (each_at (job_at ks xs) (0 + n)) v.rest
     ∙ sym (each_drop (job_at ks xs) 0 n jobs) in
-    sym (take-append-drop n (jobs_of ks' xs' r.jobs)) ∙ ap₂ ◌++◌ front back
+    sym (take-append-drop n (jobs_of ks' xs' plans)) ∙ ap₂ ◌++◌ front back

@@ -1,7 +1,7 @@
 -- A job's chunks, one by one: when they can be worked out, and what the loops over them need of each.
-use Rattle.std.specs.Prelude.{◌≡◌, refl, List, [], ◌∷◌, ℕ, ◌+◌, ◌*◌, ◌≤◌, ◌<◌, max, length, get_or, drop}
+use Rattle.std.specs.Prelude.{◌≡◌, refl, List, [], ◌∷◌, ℕ, ◌+◌, ◌*◌, ◌≤◌, ◌<◌, ◌⊎◌, max, length, get_or, drop}
 use Rattle.std.proofs.Math.Path.{ap}
-use Rattle.std.proofs.Common.{◌∙◌, mul-le-mul_left, arith, length-take}
+use Rattle.std.proofs.Common.{◌∙◌, mul-le-mul_left, arith, length-take, inl, inr}
 use Rattle.std.proofs.Math.Numerals.{add-one}
 use Rattle.std.proofs.Math.ListN.{drop_of_length-le}
 use Rattle.std.proofs.Math.Seq.{drop-cons, get_or-take}
@@ -70,6 +70,29 @@ latest_shares w t (k ∷ ks) (a ∷ xs) e =
 pub finish_shares : (c : FarmCosts) (j : Job) → length (chosen j.booking) ≡ length (units j.booking)
     → finish_of c j ≡ finish (own_costs c j) j.booking.start (units j.booking)
 finish_shares c j e = latest_shares (chunk_terms c j) j.booking.start (chosen j.booking) (units j.booking) e
+
+-- ---- Chunks left, as a loop over nodes and shares takes them
+
+-- The first of them, and those behind it.
+pub chunks_next : (w : ChunkTerms) (t : ℕ) (x : Chunk) (k a : ℕ) (ks xs ks' xs' : List ℕ) → x ≡ chunk_on w t k a → (ks ≡ k ∷ ks') × (xs ≡ a ∷ xs')
+    → chunks_from w t ks xs ≡ x ∷ chunks_from w x.sent ks' xs'
+unfolding chunks_from
+chunks_next w t x k a ks xs ks' xs' is e = rw (is, e.0, e.1)
+
+-- The latest finish is its own or theirs.
+pub finish_next : (w : ChunkTerms) (t : ℕ) (x : Chunk) (k a : ℕ) (ks xs ks' xs' : List ℕ) → x ≡ chunk_on w t k a → (ks ≡ k ∷ ks') × (xs ≡ a ∷ xs')
+    → (latest t (chunks_from w t ks xs) ≡ max x.finish (latest x.sent (chunks_from w x.sent ks' xs'))) × (x.sent ≤ x.finish)
+finish_next w t x k a ks xs ks' xs' is e =
+    rw is (ap (latest t) (chunks_next w t (chunk_on w t k a) k a ks xs ks' xs' refl e) ∙ latest_cons w t k a (chunks_from w (chunk_on w t k a).sent ks' xs'), omega arith)
+
+-- There is none without a node, or without a share.
+pub chunks_done : (w : ChunkTerms) (t : ℕ) (ks xs : List ℕ) → (length ks ≡ 0) ⊎ (length xs ≡ 0) → chunks_from w t ks xs ≡ []
+unfolding chunks_from
+chunks_done w t [] [] e = refl
+chunks_done w t [] (a ∷ xs) e = refl
+chunks_done w t (k ∷ ks) [] e = refl
+chunks_done w t (k ∷ ks) (a ∷ xs) (inl e) = absurd (omega arith)
+chunks_done w t (k ∷ ks) (a ∷ xs) (inr e) = absurd (omega arith)
 
 -- ---- A job's chunks
 

@@ -15,8 +15,6 @@ use Rattle.walk.specs.declared.WalkTerms.{WalkTerms}
 use Rattle.walk.specs.declared.FreeTimes.{FreeTimes}
 use Rattle.walk.specs.declared.Chunk.{Chunk}
 use Rattle.walk.specs.declared.ChunkTerms.{ChunkTerms}
-use Rattle.walk.specs.declared.Time.{Time}
-use Rattle.walk.specs.declared.Time.TheVariants.{Deadline, Start}
 
 -- ---- Jobs and chunks
 
@@ -181,10 +179,6 @@ deadline_of j = j.deadline
 
 abbrev pub start_of : Job → ℕ
 start_of j = j.booking.start
-
-abbrev pub time_of : Time → Job → ℕ
-time_of Deadline = deadline_of
-time_of Start = start_of
 
 -- jobs by deadline, equal deadlines by job number
 abbrev pub by_deadline : List Job → List Job

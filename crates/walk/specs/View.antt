@@ -1,15 +1,15 @@
 -- What the queue's entries and the rows of cells beside them mean: the waiting jobs, each with its booking. How the
 -- bookings lie in memory is said here and nowhere else; everything above speaks of the jobs.
 use Rattle.std.specs.Prelude.{◌≡◌, refl, List, [], ◌∷◌, ◌++◌, map, Bool, ◌&&◌, ℕ, zero, suc, ◌+◌, ◌*◌, ◌-◌, ◌≤◌, ◌<◌, min, leb, length, get_or, take, drop, set, replicate}
-use Rattle.std.proofs.Common.{sym, ap, ap₂, subst, ◌∙◌, add-one, arith, length-drop, length-append, take-take, take_all, length-take-le, get_or-take, take-suc, take-suc-set}
+use Rattle.std.proofs.Common.{sym, ap, ap₂, subst, ◌∙◌, add-one, arith, length-drop, length-append, take_all, length-take-le, get_or-take, take-suc, take-suc-set}
 use Rattle.std.proofs.Math.Decide.{dec_le}
-use Rattle.std.proofs.lemmas.List.{length-replicate, length-map, set_at, take-append-le}
-use Rattle.std.proofs.Math.Seq.{append_snoc}
+use Rattle.std.proofs.lemmas.List.{length-replicate, length-map, drop-replicate, take-append-le}
 use Rattle.lists.specs.Laws.{All}
 use Rattle.lists.specs.Places.{each_at, each_length, each_set, each_get, each_front, each_same}
 use Rattle.lists.specs.Rows.{row_at, row_put, row_moved, Elsewhere, Behind, Alike, put_size, put_front, put_elsewhere, moved_front, moved_elsewhere, cell_in}
 use Rattle.shares.specs.Model.{earliest}
 use Rattle.shares.specs.Optimal.{greedy_length}
+use Rattle.limits.specs.declared.FarmCosts.{FarmCosts}
 use Rattle.keys.specs.declared.Key.{Key}
 use Rattle.booking.specs.declared.Request.{Request}
 use Rattle.booking.specs.declared.Found.{Found}
@@ -20,7 +20,7 @@ use Rattle.walk.specs.declared.QueueEntry.{QueueEntry}
 use Rattle.walk.specs.declared.ChunkTerms.{ChunkTerms}
 use Rattle.walk.specs.declared.FreeTimes.{FreeTimes}
 use Rattle.walk.specs.declared.WalkTerms.{WalkTerms}
-use Rattle.walk.specs.Model.{no_job, empty_job, booked, chunk_on, chunk_at, plan, books_all, step, free_times_after, JobSized}
+use Rattle.walk.specs.Model.{no_job, empty_job, booked, chunk_terms, chunk_on, chunk_at, chunks_from, lines_of, plan, books_all, step, free_times_after, JobSized}
 
 -- ---- Definitions
 
@@ -171,34 +171,17 @@ jobs_set ks xs ks' xs' hs i h e f =
 
 -- ---- A job read out of its entry and its row
 
--- the first n of a list in an array of m, a in the others
-abbrev pub filled : {A : Type 0} → ℕ → A → ℕ → List A → List A
-filled m a n s = take n s ++ replicate (m - n) a
-
--- One more element.
-pub filled_next : {A : Type 0} (m : ℕ) (a : A) (k : ℕ) (s : List A) (z : A) → k < m → k < length s → set (filled m a k s) k (get_or s k z) ≡ filled m a (k + 1) s
-filled_next {A} m a k s z h l =
-    let e : m - k ≡ suc (m - (k + 1)) = omega arith in
-    let rest : List A = replicate (m - (k + 1)) a in
-    ap (λ (n : ℕ). set (take k s ++ replicate n a) k (get_or s k z)) e
-    ∙ set_at (take k s) a rest (get_or s k z) k (length-take-le k s (omega arith))
-    ∙ sym (append_snoc (take k s) (get_or s k z) rest)
-    ∙ ap (λ (t : List A). t ++ rest) (sym (take-suc s k z l) ∙ ap (λ (n : ℕ). take n s) (sym (add-one k)))
-
--- The cells in use of a row, whatever the count.
-pub filled_blanked : (n i : ℕ) (ks : List ℕ) → i * 64 + 64 ≤ length ks → filled 64 0 (min n 64) (drop (i * 64) ks) ≡ blanked n (row_at 64 i ks)
-filled_blanked n i ks fits =
-    let long : length (drop (i * 64) ks) ≡ length ks - i * 64 = length-drop (i * 64) ks in
-    elim (dec_le n 64) [
-      | yes h ↦
-          let e : min n 64 ≡ n = omega arith in
-          ap (λ (k : ℕ). filled 64 0 k (drop (i * 64) ks)) e ∙ ap (λ (t : List ℕ). t ++ replicate (64 - n) 0) (sym (take-take n 64 (drop (i * 64) ks) h))
-      | no h ↦
-          let e : min n 64 ≡ 64 = omega arith in
-          let z : 64 - n ≡ 0 = omega arith in
-          ap (λ (k : ℕ). filled 64 0 k (drop (i * 64) ks)) e
-          ∙ ap₂ (λ (t : List ℕ) (k : ℕ). t ++ replicate k 0) (sym (take_all n (row_at 64 i ks) (omega (arith, length-take-le 64 (drop (i * 64) ks) (omega arith))))) (sym z)
-    ]
+-- The cells in use of a row, in an array of 64, whatever the count.
+pub read_blanked : (n k : ℕ) (row own : List ℕ) → k ≡ min n 64 → length row ≤ 64 → own ≡ take k row → own ++ drop k (replicate 64 0) ≡ blanked n row
+read_blanked n k row own e few is = elim (dec_le n 64) [
+  | yes h ↦
+      let same : k ≡ n = omega arith in
+      rw (is, same, drop-replicate {X = ℕ} n 64 0)
+  | no h ↦
+      let same : k ≡ 64 = omega arith in
+      let z : 64 - n ≡ 0 = omega arith in
+      rw (is, same, z, take_all 64 row few, take_all n row (omega arith))
+]
 
 -- The cells in use of a row, one by one.
 pub cell_blanked : (n i k : ℕ) (ks : List ℕ) → k < n → n ≤ 64 → i * 64 + 64 ≤ length ks → get_or ks (i * 64 + k) 0 ≡ get_or (blanked n (row_at 64 i ks)) k 0
@@ -209,6 +192,17 @@ cell_blanked n i k ks h few fits =
     ∙ sym (get_or-take n (take n (row_at 64 i ks)) k 0 h)
     ∙ ap (λ (l : List ℕ). get_or l k 0) (sym (take-append-le n (take n (row_at 64 i ks)) (replicate (64 - n) 0) (omega (arith, length-take-le n (row_at 64 i ks) (omega arith)))))
     ∙ get_or-take n (blanked n (row_at 64 i ks)) k 0 h
+
+-- The first n cells of a row, where it has so many, are those of a booking of n chunks, and make a job's lines.
+pub row_used : (n i : ℕ) (ks own : List ℕ) → own ≡ take n (row_at 64 i ks) → length own ≡ n → take n (blanked n (row_at 64 i ks)) ≡ own
+row_used n i ks own e l =
+    let long : length (take n (row_at 64 i ks)) ≡ n = rw e at l in
+    take-append-le n (take n (row_at 64 i ks)) (replicate (64 - n) 0) (omega arith) ∙ take_all n (take n (row_at 64 i ks)) (omega arith) ∙ sym e
+
+pub row_lines : (c : FarmCosts) (w : ChunkTerms) (h : QueueEntry) (i : ℕ) (ks xs own parts : List ℕ) → w ≡ chunk_terms c (bare h) → own ≡ take h.count (row_at 64 i ks) → length own ≡ h.count
+    → parts ≡ take h.count (row_at 64 i xs) → length parts ≡ h.count → lines_of c (job_at ks xs i h) ≡ chunks_from w h.start own parts
+row_lines c w h i ks xs own parts t e l f m =
+    ap₂ (chunks_from (chunk_terms c (bare h)) h.start) (row_used h.count i ks own e l) (row_used h.count i xs parts f m) ∙ ap (λ (v : ChunkTerms). chunks_from v h.start own parts) (sym t)
 
 -- So a chunk is worked out of two cells of the arrays.
 pub chunk_cells : (w : ChunkTerms) (ks xs : List ℕ) (i s n k t : ℕ) → k < n → n ≤ 64 → i < 128 → length ks ≡ 8192 → length xs ≡ 8192

@@ -1,5 +1,5 @@
 -- What `walked` starts from and comes to, and its loop's steps, one job each.
-use Rattle.std.specs.Prelude.{◌≡◌, List, [], ◌∷◌, ◌++◌, map, true, ◌&&◌, ℕ, ◌+◌, ◌≤◌, ◌<◌, length, get_or, take, drop, set, leb}
+use Rattle.std.specs.Prelude.{◌≡◌, List, [], ◌∷◌, ◌++◌, map, true, false, ◌&&◌, Option, MatchOption, ℕ, ◌+◌, ◌≤◌, ◌<◌, length, get_or, take, drop, set, leb}
 use Rattle.std.proofs.Common.{ap, sym, ◌∙◌, append_assoc, leb-true, add-one, arith}
 use Rattle.std.proofs.Math.Seq.{take-suc-set, drop-cons}
 use Rattle.lists.specs.Laws.{All, all_map}
@@ -15,7 +15,6 @@ use Rattle.booking.specs.Booked.{book_feasible}
 use Rattle.walk.specs.declared.Job.{Job}
 use Rattle.walk.specs.declared.WalkTerms.{WalkTerms}
 use Rattle.walk.specs.declared.FreeTimes.{FreeTimes}
-use Rattle.walk.specs.declared.Plan.{Plan}
 use Rattle.walk.specs.declared.QueueEntry.{QueueEntry}
 use Rattle.walk.specs.Model.{greatest, no_job, default_costs, lines_of, by_deadline, request_of, step, free_times_after, plan, books_all, InTurn}
 use Rattle.walk.specs.View.{bare, jobs_of, Short}
@@ -33,16 +32,18 @@ pub record Ready (w : WalkTerms) (b : FreeTimes) (js : List Job) : Type 0 where
   pub free : All (λ (t : ℕ). t ≤ greatest) (take w.nodes b.free)
   pub jobs : All Walkable js
 
--- what the walk of the first n of these jobs comes to, with rows of cells for it: where all are booked, the first n
--- entries with these rows are the plan, and the entries behind them are as they were
-pub record Walked (w : WalkTerms) (b : FreeTimes) (jobs : List QueueEntry) (n : ℕ) (r : Plan) (ks xs : List ℕ) : Type 0 where
-  pub books : r.ok ≡ books_all w b (by_deadline (map bare (take n jobs)))
-  pub plans : r.ok ≡ true → take n (jobs_of ks xs r.jobs) ≡ plan w b (by_deadline (map bare (take n jobs)))
-  pub few : r.ok ≡ true → All Short (take n r.jobs)
-  pub rest : r.ok ≡ true → drop n r.jobs ≡ drop n jobs
-  pub size : length r.jobs ≡ 128
-  pub nodes_size : length ks ≡ 8192
-  pub shares_size : length xs ≡ 8192
+-- the plan of the first n of these jobs, with its rows of cells: all are booked, the first n entries with these rows are
+-- the plan, and the entries behind them are as they were
+pub record Planned (w : WalkTerms) (b : FreeTimes) (jobs : List QueueEntry) (n : ℕ) (ks xs : List ℕ) (plans : List QueueEntry) : Type 0 where
+  pub books : books_all w b (by_deadline (map bare (take n jobs))) ≡ true
+  pub jobs_are : take n (jobs_of ks xs plans) ≡ plan w b (by_deadline (map bare (take n jobs)))
+  pub few : All Short (take n plans)
+  pub rest : drop n plans ≡ drop n jobs
+  pub size : length plans ≡ 128
+
+-- what the walk of the first n of these jobs comes to, with rows of cells for it: their plan where all are booked
+abbrev pub Walked : WalkTerms → FreeTimes → List QueueEntry → ℕ → Option (List QueueEntry) → List ℕ → List ℕ → Type 0
+Walked w b jobs n r ks xs = MatchOption r (books_all w b (by_deadline (map bare (take n jobs))) ≡ false) (Planned w b jobs n ks xs)
 
 -- each job has a feasible booking behind those before it
 abbrev pub FeasibleAll : WalkTerms → FreeTimes → List Job → Type 0

@@ -1,27 +1,29 @@
--- `printing::put_number` meets its contract: the tab, and behind it as many digits as the number has.
-use mathlib.Core.Path.{ap}
-use Prim.Native.Nat.{ℕ}
-use native.Mathlib.Omega.{arith}
-use Rattle.printing.specs.Model.{digits, decimal, powers}
-use Rattle.printing.specs.Decimal.{digits_length, reached_most}
-use Rattle.text.specs.Writing.{wrote_same, wrote_join, wrote_length}
+-- `printing::put_number` meets its contract: the tab, and behind it the digits that the library writes.
+use Rattle.std.proofs.Common.{◌≡◌, ◌+◌, length, arith, rules}
+use Rattle.std.specs.Fmt as std
+use Rattle.text.specs.Writing.{wrote_same, wrote_join}
+use Rattle.printing.specs.Decimal.{decimal_std, std_length}
+use Rattle.printing.specs.Loops.{wrote_to}
 use Rattle.printing.proofs.put_number.Goals as goal
 
-pub put_digits-requires : goal.put_digits-requires
-put_digits-requires c =
-    let a = c.args in
-    let p = c.put_text-next.ensures in
-    let l = wrote_length p (omega (arith, p.place)) in
-    omega (arith, p.place, l, c.places-k.ensures, reached_most a.n powers)
+pub write_digits-requires : goal.write_digits-requires
+write_digits-requires c =
+    let n = c.args.n in
+    let q = c.ilog10.ensures in
+    let long : length (std.decimal n) ≡ c.ilog10.result + 1 =
+    std_length n c.max.result c.ilog10.result (search rules) c.max.ensures q.power_le q.next_power_gt in
+    (omega arith, omega (arith, c.put_text-next.ensures.place, q.bound))
 
 pub returns : goal.returns
-unfolding decimal
 returns c =
-    let a = c.args in
-    let p = c.put_text-next.ensures in
-    let q = c.put_digits.ensures in
-    let k = c.places-k.ensures in
+    let n = c.args.n in
+    let q = c.ilog10.ensures in
+    let w = c.write_digits.ensures in
+    let long : length (std.decimal n) ≡ c.ilog10.result + 1 =
+    std_length n c.max.result c.ilog10.result (search rules) c.max.ensures q.power_le q.next_power_gt in
+    let text = decimal_std n (search rules) in
     record {
-      wrote = wrote_join p (omega (arith, p.place)) (wrote_same (ap (λ (m : ℕ). digits m a.n) k) q);
-      within = omega (arith, p.place, q.place, k, digits_length c.places-k.result a.n, reached_most a.n powers);
+      wrote = wrote_join c.put_text-next.ensures (omega (arith, c.put_text-next.ensures.place))
+          (wrote_same text (wrote_to (omega (arith, w.start, long)) (omega (arith, long)) w.before w.written));
+      within = omega (arith, c.put_text-next.ensures.place, q.bound);
     }

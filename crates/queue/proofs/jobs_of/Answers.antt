@@ -1,33 +1,22 @@
-use mathlib.Core.Path.{◌≡◌, refl, subst}
-use Prim.Native.Nat.{ℕ, ◌<◌}
+use mathlib.Core.Path.{◌≡◌}
 use native.Mathlib.Omega.{arith}
-use lib.ListN.{length, take, length-set}
-use Rattle.walk.specs.View.{jobs_of, read_next}
-use borrow.Author.Rules.{rules}
+use lib.ListN.{length, length-set}
+use Rattle.lists.specs.Places.{each_length}
+use Rattle.std.proofs.Math.Seq.{take_all}
+use mathlib.Core.Path.{◌∙◌}
+use Rattle.walk.specs.View.{job_at, jobs_of, read_next}
 use Rattle.queue.proofs.jobs_of.Goals as goal
-
-pub loop-i-init : goal.loop-i-init
-loop-i-init c = (omega arith, refl, refl)
-
-pub job_at-requires : goal.job_at-requires
-job_at-requires c =
-    let a = c.args in
-    let l = c.loop-i in
-    let more : l.i < a.count = c.loop-i-test.true in
-    let fits : length a.jobs ≡ 128 = search rules in
-    (omega (arith, c.requires.0), c.requires.1, c.requires.2)
 
 pub loop-i-preserved : goal.loop-i-preserved
 loop-i-preserved c =
     let a = c.args in
     let l = c.loop-i in
-    let more : l.i < a.count = c.loop-i-test.true in
-    let fits : length a.jobs ≡ 128 = search rules in
-    (omega arith, simp length-set l.invariant.1, rw c.job_at.ensures (read_next a.nodes.now a.shares.now a.jobs l.i l.out (omega (arith, c.requires.0)) (omega (arith, c.requires.0, l.invariant.1)) l.invariant.2))
+    (simp length-set l.invariant.0, rw c.job_at.ensures (read_next a.cells.now.nodes a.cells.now.shares a.jobs.now l.i l.out c.loop-i-test.true (omega arith) l.invariant.1))
 
 pub returns : goal.returns
 returns c =
-    let l = c.loop-i in
     let a = c.args in
-    let e : l.i ≡ a.count = omega (arith, l.invariant.0, c.loop-i-test.false) in
-    (l.invariant.1, subst (λ (n : ℕ). take n l.out ≡ take n (jobs_of a.nodes.now a.shares.now a.jobs)) e l.invariant.2)
+    let l = c.loop-i in
+    let e : l.i ≡ length a.jobs.now = omega arith in
+    let all = take_all (length a.jobs.now) (jobs_of a.cells.now.nodes a.cells.now.shares a.jobs.now) (omega (arith, each_length (job_at a.cells.now.nodes a.cells.now.shares) 0 a.jobs.now)) in
+    (l.invariant.0, (rw e at l.invariant.1) ∙ all)

@@ -1,51 +1,44 @@
-use mathlib.Core.Path.{◌≡◌, sym, ◌∙◌}
-use Prim.Native.Nat.{◌+◌, ◌*◌, ◌-◌}
-use native.Mathlib.Omega.{arith}
-use lib.ListN.{drop}
-use Rattle.reading.specs.Steps.{number_from, number_short, number_long, number_start, number_low, number_high}
-use Rattle.reading.specs.Steps.{number_more, number_none, power_small, power_more}
+use Rattle.std.proofs.Common.{◌≡◌, ◌≤◌, length, ◌<◌, refl, ◌-◌, arith, sym, ◌∙◌, get_or}
+use Rattle.reading.specs.Steps.{number_start, number_other, number_more, number_none, power_small, power_more}
 use Rattle.reading.proofs.digits.Goals as goal
 
-pub returns-then-n-lt1 : goal.returns-then-n-lt1
-returns-then-n-lt1 c = sym (number_short c.args.field.now (omega arith))
+pub loop-b-init : goal.loop-b-init
+loop-b-init c =
+    let f = c.args.field.now in
+    let l : 1 ≤ length f = grind arith in
+    let h : length f ≤ 13 = grind arith in
+    record { below = omega arith; same = number_start f l h }
 
-pub returns-then-n-gt13 : goal.returns-then-n-gt13
-returns-then-n-gt13 c = sym (number_long c.args.field.now (omega arith))
-
-pub loop-i-init : goal.loop-i-init
-loop-i-init c =
-    (omega arith, omega arith, number_start c.args.field.now (omega arith) (omega arith))
-
-pub returns-then-b-lt48 : goal.returns-then-b-lt48
-returns-then-b-lt48 c =
+pub returns-then-not-is_ascii_digit : goal.returns-then-not-is_ascii_digit
+returns-then-not-is_ascii_digit c =
     let a = c.args in
-    let l = c.loop-i in
-    sym (sym l.invariant.2 ∙ number_low l.value a.field.now l.i (omega arith) (omega arith))
-
-pub returns-then-b-gt57 : goal.returns-then-b-gt57
-returns-then-b-gt57 c =
-    let a = c.args in
-    let l = c.loop-i in
-    sym (sym l.invariant.2 ∙ number_high l.value a.field.now l.i (omega arith) (omega arith))
+    let l = c.loop-b in
+    let o = c.if-not-is_ascii_digit.ensures.value in
+    sym (sym l.invariant.same ∙ number_other l.value a.field.now l.b-index c.loop-b-test.true o)
 
 pub overflow_mul-value : goal.overflow_mul-value
-overflow_mul-value c = omega (arith, power_small c.loop-i.i (omega arith))
+overflow_mul-value c =
+    let n : c.loop-b.b-index < 13 = grind arith in
+    omega (arith, power_small c.loop-b.b-index n)
 
 pub overflow_add-value : goal.overflow_add-value
-overflow_add-value c = omega (arith, power_small c.loop-i.i (omega arith))
+overflow_add-value c =
+    let n : c.loop-b.b-index < 13 = grind arith in
+    omega (arith, power_small c.loop-b.b-index n)
 
-pub loop-i-preserved : goal.loop-i-preserved
-loop-i-preserved c =
+pub loop-b-preserved : goal.loop-b-preserved
+loop-b-preserved c =
     let a = c.args in
-    let l = c.loop-i in
-    let w = c.wide8-b in
+    let l = c.loop-b in
     let f = a.field.now in
-    let m : number_from l.value (drop l.i f) ≡ number_from (l.value * 10 + (w.result - 48)) (drop (l.i + 1) f) =
-    number_more l.value f l.i (omega arith) w.result w.ensures.0 (omega arith) (omega arith) in
-    (omega arith, power_more l.value w.result l.i l.invariant.1 (omega arith), sym m ∙ l.invariant.2)
+    let b = get_or f l.b-index 0 in
+    let d = c.if-not-is_ascii_digit.ensures.cases in
+    let e : c.from.result ≡ b - 48 = c.from.ensures in
+    let m = number_more l.value f l.b-index c.loop-b-test.true b refl d.0 d.1 in
+    rw e (record { below = power_more l.value b l.b-index l.invariant.below d.1; same = sym m ∙ l.invariant.same })
 
 pub returns : goal.returns
 returns c =
     let a = c.args in
-    let l = c.loop-i in
-    sym (sym l.invariant.2 ∙ number_none l.value a.field.now l.i (omega arith))
+    let l = c.loop-b in
+    sym (sym l.invariant.same ∙ number_none l.value a.field.now l.b-index (omega arith))

@@ -1,49 +1,52 @@
-use mathlib.Core.Path.{refl, sym, ◌∙◌}
-use Prim.Native.Nat.{◌+◌}
-use native.Mathlib.Omega.{arith}
-use borrow.Author.Tests.{not-true, not-false}
+use Rattle.std.proofs.Common.{arith, ◌≤◌, length, length-set, sym, ◌∙◌, ◌≡◌, ◌+◌, set}
+use Rattle.std.proofs.Math.Seq.{set_out}
 use Rattle.reading.specs.Separators.{field_whole, gathered_broken}
 use Rattle.reading.specs.Steps.{behind_next, behind_none, gathered_more, gathered_stop, gathered_none}
 use Rattle.reading.proofs.gather.Goals as goal
+use Rattle.reading.proofs.gather.Goals.{then-count-lt39, else-count-lt39}
 
-pub loop-at-init : goal.loop-at-init
-loop-at-init c = (omega arith, omega arith, refl)
-
-pub returns-then-not-field : goal.returns-then-not-field
-returns-then-not-field c =
+pub returns-in_err-end : goal.returns-in_err-end
+returns-in_err-end c =
     let a = c.args in
     let l = c.loop-at in
-    let f = c.field_from-field in
-    let b = gathered_broken l.count l.numbers a.line.now l.at f.result c.loop-at-test.true f.ensures.0
-    (not-true _ c.if-not-field.true) in
-    c.stopped.ensures ∙ sym (sym l.invariant.2 ∙ b)
+    let b = gathered_broken l.count l.numbers a.line.now l.at c.loop-at-test.true c.in_err-end.ensures.place in
+    c.from_residual.ensures ∙ sym (sym l.invariant.same ∙ b)
 
-pub returns-then-not-x : goal.returns-then-not-x
-returns-then-not-x c =
+pub returns-in_err-value : goal.returns-in_err-value
+returns-in_err-value c =
     let a = c.args in
     let l = c.loop-at in
-    let f = c.field_from-field in
-    let d = c.digits-x in
-    let cut = behind_next a.line.now l.at f.result.end c.loop-at-test.true
-    (field_whole a.line.now (l.at + 1) f.result f.ensures.0 (not-false _ c.if-not-field.false)) in
-    let s = gathered_stop l.count l.numbers _ _ _ cut d.result d.ensures (not-true _ c.if-not-x.true) in
-    c.stopped-then-not-x.ensures ∙ sym (sym l.invariant.2 ∙ s)
+    let e = c.in_ok-end.end in
+    let whole = field_whole a.line.now (l.at + 1) e c.in_ok-end.ensures.place in
+    let cut = behind_next a.line.now l.at e c.loop-at-test.true whole in
+    let s = gathered_stop l.count l.numbers _ _ _ cut c.in_err-value.ensures in
+    c.from_residual-in_err-value.ensures ∙ sym (sym l.invariant.same ∙ s)
 
 pub loop-at-preserved : goal.loop-at-preserved
 loop-at-preserved c =
     let a = c.args in
     let l = c.loop-at in
-    let f = c.field_from-field in
-    let d = c.digits-x in
-    let cut = behind_next a.line.now l.at f.result.end c.loop-at-test.true
-    (field_whole a.line.now (l.at + 1) f.result f.ensures.0 (not-false _ c.if-not-field.false)) in
-    let s = c.stored-next in
-    let known = not-false _ c.if-not-x.false in
-    let m = gathered_more l.count l.numbers _ _ _ cut d.result s.result d.ensures known s.ensures in
-    (omega arith, omega arith, sym m ∙ l.invariant.2)
+    let e = c.in_ok-end.end in
+    let v = c.in_ok-value.value in
+    let n : c.if-count-lt39.numbers ≡ set l.numbers l.count v =
+    elim c.if-count-lt39.branch [
+      | then-count-lt39 w ↦ w.numbers-is
+      | else-count-lt39 w ↦
+          let k : length l.numbers ≤ l.count = omega (arith, w.if-count-lt39.false, l.invariant.places) in
+          w.numbers-is ∙ sym (set_out l.numbers l.count v k)
+    ] in
+    let whole = field_whole a.line.now (l.at + 1) e c.in_ok-end.ensures.place in
+    let cut = behind_next a.line.now l.at e c.loop-at-test.true whole in
+    let m = gathered_more l.count l.numbers _ _ _ cut v c.if-count-lt39.numbers c.in_ok-value.ensures n in
+    record {
+      counted = omega arith;
+      within = c.in_ok-end.ensures.within.1;
+      places = rw (n, length-set) l.invariant.places;
+      same = sym m ∙ l.invariant.same;
+    }
 
 pub returns : goal.returns
 returns c =
     let a = c.args in
     let l = c.loop-at in
-    sym (sym l.invariant.2 ∙ gathered_none l.count l.numbers _ (behind_none a.line.now l.at (omega arith)))
+    sym (sym l.invariant.same ∙ gathered_none l.count l.numbers _ (behind_none a.line.now l.at (omega arith)))

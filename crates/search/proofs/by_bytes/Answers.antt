@@ -1,28 +1,20 @@
-use Rattle.std.proofs.Common.{arith}
+-- `search::by_bytes` meets its contract.
+use Rattle.std.proofs.Common.{arith, ◌≡◌, ◌<◌, drop, length, ◌∙◌}
 use Rattle.search.specs.Model.{either}
-use Rattle.search.specs.Laws.{before_end}
-use Rattle.search.specs.Steps.{before_stop, before_stop_second, before_more}
+use Rattle.search.specs.Laws.{next_past}
+use Rattle.search.specs.Steps.{rest_is, before_position}
 use Rattle.search.proofs.by_bytes.Goals as goal
 
-pub returns-then-x-a : goal.returns-then-x-a
-returns-then-x-a c =
+pub returns-in-Some : goal.returns-in-Some
+returns-in-Some c =
     let a = c.args in
-    let l = c.loop-i in
-    omega (arith, before_stop a.a a.b a.text.now l.i c.loop-i-test.true c.if-x-a.true)
+    let xs = c.in-Some.rest.now in
+    let d : xs ≡ drop a.from a.text.now = c.in-Some.ensures.lookup.0.2 ∙ rest_is a.text.now a.from in
+    let f = rw (c.first_of.ensures, ← before_position) at c.unwrap_or.ensures in
+    omega (arith, rw d at f)
 
-pub returns-then-x-b : goal.returns-then-x-b
-returns-then-x-b c =
+pub returns-in-None : goal.returns-in-None
+returns-in-None c =
     let a = c.args in
-    let l = c.loop-i in
-    omega (arith, before_stop_second a.a a.b a.text.now l.i c.loop-i-test.true c.if-x-a.false c.if-x-b.true)
-
-pub loop-i-preserved : goal.loop-i-preserved
-loop-i-preserved c =
-    let a = c.args in
-    let l = c.loop-i in
-    omega (arith, before_more a.a a.b a.text.now l.i c.loop-i-test.true c.if-x-a.false c.if-x-b.false)
-
-pub returns : goal.returns
-returns c =
-    let a = c.args in
-    omega (arith, before_end (either a.a a.b) a.text.now c.loop-i.i (omega arith))
+    let l : length a.text.now < a.from = grind arith in
+    omega (arith, next_past (either a.a a.b) a.text.now a.from (omega arith))

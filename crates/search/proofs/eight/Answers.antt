@@ -1,9 +1,9 @@
 -- `search::eight` meets its contract.
-use Rattle.search.specs.Steps.{word_eight}
+use Rattle.std.proofs.Common.{rules}
+use Rattle.search.specs.Steps.{eight_bytes}
 use Rattle.search.proofs.eight.Goals as goal
 
 pub returns : goal.returns
 returns c =
     let a = c.args in
-    let low = c.four in
-    word_eight a.text.now a.at low.result c.four-2.result low.ensures.0 low.ensures.1 c.four-2.ensures.1
+    eight_bytes a.bytes.now c.from_le_bytes.result (search rules) (λ i. search rules) c.from_le_bytes.ensures

@@ -1,12 +1,15 @@
--- `search::next_of` meets its contract. The invariant and the measure are those of `by_bytes`; a turn goes eight bytes
--- further.
-use Rattle.std.proofs.Common.{◌≡◌, ◌-◌, ◌≤◌, length}
+-- `search::next_of` meets its contract. The loop's invariant: what is left is the text from i on, and what is wanted
+-- stands next where it stands next from i on.
+use Rattle.std.proofs.Common.{◌≡◌, ◌+◌, length, drop}
 use Rattle.search.specs.Model.{either, next_place}
 use Rattle.search.proofs.next_of.Given as goal
 
-abbrev pub invariant-loop-i : goal.invariant-loop-i
-invariant-loop-i l =
-    (l.i ≤ length l.text) × (next_place (either l.a l.b) l.text l.from ≡ next_place (either l.a l.b) l.text l.i)
+abbrev pub invariant-loop-bytes : goal.invariant-loop-bytes
+invariant-loop-bytes l = record {
+  left : l.rest ≡ drop l.i l.text;
+  size : l.i + length l.rest ≡ length l.text;
+  same : next_place (either l.a l.b) l.text l.from ≡ next_place (either l.a l.b) l.text l.i;
+}
 
-abbrev pub decreases-loop-i : goal.decreases-loop-i
-decreases-loop-i l = length l.text - l.i
+abbrev pub decreases-loop-bytes : goal.decreases-loop-bytes
+decreases-loop-bytes l = length l.rest

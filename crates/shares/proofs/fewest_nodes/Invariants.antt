@@ -1,12 +1,9 @@
 -- `shares::fewest_nodes` meets its contract. The loop's invariant: the nodes counted so far leave a rest of the size, which is
--- what they do not hold, and a window, which is what they leave. The measure is the nodes not yet counted.
-use Rattle.std.proofs.Common.{◌≡◌, ◌+◌, ◌-◌, ◌≤◌}
+-- what they do not hold, and a window, which is what they leave.
+use Rattle.std.proofs.Common.{◌≡◌, ◌+◌, ◌≤◌}
 use Rattle.shares.specs.Model.{left_after, capacity}
 use Rattle.shares.proofs.fewest_nodes.Given as goal
 
 abbrev pub invariant-loop-count : goal.invariant-loop-count
 invariant-loop-count l =
-    (l.count ≤ l.nodes) × (1 ≤ l.rest) × (l.rest + capacity l.costs l.count l.window ≡ l.size) × (l.left ≡ left_after l.costs l.count l.window)
-
-abbrev pub decreases-loop-count : goal.decreases-loop-count
-decreases-loop-count l = l.nodes - l.count
+    (1 ≤ l.rest) × (l.rest + capacity l.costs l.count l.window ≡ l.size) × (l.left ≡ left_after l.costs l.count l.window)

@@ -1,14 +1,8 @@
 -- `shares::least_for_one` meets its contract. What the first share of the window holds takes both setups and its units, so no sum wraps.
 use Rattle.std.proofs.Common.{◌≤◌, sym, arith}
 use Rattle.shares.specs.Model.{first}
-use Rattle.shares.specs.Capacity.{capacity_one}
-use Rattle.shares.specs.Least.{earliest_is, earliest_short, one_within, one_least}
+use Rattle.shares.specs.Least.{earliest_is, one_within, one_least}
 use Rattle.shares.proofs.least_for_one.Goals as goal
-
-pub returns-then-first_share-size : goal.returns-then-first_share-size
-returns-then-first_share-size c =
-    let a = c.args in
-    sym (earliest_short a.costs c.requires.0 1 a.size a.window (omega (arith, capacity_one a.costs a.window)))
 
 pub overflow_add-result : goal.overflow_add-result
 overflow_add-result c =
@@ -17,16 +11,6 @@ overflow_add-result c =
 
 pub overflow_add-result-2 : goal.overflow_add-result-2
 overflow_add-result-2 c =
-    let a = c.args in
-    omega (arith, one_within a.costs c.requires.0 a.size a.window c.requires.1 (omega arith))
-
-pub overflow_mul-result : goal.overflow_mul-result
-overflow_mul-result c =
-    let a = c.args in
-    omega (arith, one_within a.costs c.requires.0 a.size a.window c.requires.1 (omega arith))
-
-pub overflow_add-result-3 : goal.overflow_add-result-3
-overflow_add-result-3 c =
     let a = c.args in
     omega (arith, one_within a.costs c.requires.0 a.size a.window c.requires.1 (omega arith))
 

@@ -1,114 +1,28 @@
-use native.Mathlib.Omega.{arith}
 use lib.ListN.{length-set}
-use Rattle.walk.specs.declared.FreeTimes.{FreeTimes}
-use Rattle.walk.specs.Chunks.{node_known, ends_next, ends_all, chunk_fits}
-use Rattle.walk.proofs.Sizes.{nodes_length, shares_length, free_length}
-use Rattle.soundness.specs.Steps.{bounded_sends, fitting_start, fitting_more, fitting_link, fitting_node, fitting_all}
+use Rattle.std.proofs.Common.{inl, inr, ⊎_elim}
+use Rattle.soundness.specs.Steps.{fitting_sends, fitting_more, fitting_link, fitting_node, fitting_all}
+use Rattle.soundness.proofs.job_fits.Goals.{then-chunk-now-via-then-chunk-now, then-chunk-now-via-else-chunk-now+then-booking-now}
 use Rattle.soundness.proofs.job_fits.Goals as goal
-
-pub loop-i-init : goal.loop-i-init
-loop-i-init c =
-    let w = c.chunk_terms-terms in
-    let a = c.args in
-    let s = bounded_sends a.costs a.job c.requires (nodes_length a.job c.well_formed.1.1.0) (shares_length a.job c.well_formed.1.1.0) in
-    (omega arith, free_length a.times c.well_formed.1.0, ends_all a.costs a.job s w.result w.ensures, fitting_start w.result a.times a.job.booking)
-
-pub bounds-b-i : goal.bounds-b-i
-bounds-b-i c = omega (arith, c.requires.count)
-
-pub offset_bounds-b-i : goal.offset_bounds-b-i
-offset_bounds-b-i c = omega (arith, c.requires.count)
-
-pub bounds-b-i-in-loop-i : goal.bounds-b-i-in-loop-i
-bounds-b-i-in-loop-i c = omega (arith, c.requires.count)
 
 pub chunk_on-chunk-requires : goal.chunk_on-chunk-requires
 chunk_on-chunk-requires c =
-    let l = c.loop-i in
-    let a = c.args in
-    let s = bounded_sends a.costs a.job c.requires (nodes_length a.job c.well_formed.1.1.0) (shares_length a.job c.well_formed.1.1.0) in
-    let w = c.chunk_terms-terms in
-    chunk_fits a.costs a.job s w.result w.ensures l.i l.last l.invariant.2
+    rw c.chunk_terms-terms.ensures (c.requires.costs, c.requires.compute, fitting_sends _ _ _ _ _ _ _ _ c.loop-node.invariant.1)
 
-pub overflow_sub-place : goal.overflow_sub-place
-overflow_sub-place c =
-    let l = c.loop-i in
-    let a = c.args in
-    let s = bounded_sends a.costs a.job c.requires (nodes_length a.job c.well_formed.1.1.0) (shares_length a.job c.well_formed.1.1.0) in
-    let k = node_known a.costs a.job s l.i c.loop-i-test.true in
-    rw c.chunk_on-chunk.ensures (omega (arith, k))
-
-pub returns-then-chunk-link : goal.returns-then-chunk-link
-returns-then-chunk-link c =
-    let l = c.loop-i in
-    let a = c.args in
-    let s = bounded_sends a.costs a.job c.requires (nodes_length a.job c.well_formed.1.1.0) (shares_length a.job c.well_formed.1.1.0) in
-    let w = c.chunk_terms-terms in
+pub returns-then-chunk-now : goal.returns-then-chunk-now
+returns-then-chunk-now c =
+    let u = c.loop-node.invariant.1 in
     let x = c.chunk_on-chunk in
-    let now : FreeTimes = record { link = l.link; free = l.free } in
-    fitting_link a.costs a.times a.job s w.result w.ensures now l.last l.i l.invariant.3 c.loop-i-test.true x.result x.ensures c.if-chunk-link.true
+    let e = c.in-Some.ensures.steps in
+    elim c.then-chunk-now.branch [
+      | then-chunk-now-via-then-chunk-now p ↦ fitting_link _ _ _ _ _ _ _ _ u x.result _ _ _ _ x.ensures e _ c.from-place.ensures p.if-chunk-now.true
+      | then-chunk-now-via-else-chunk-now+then-booking-now p ↦ fitting_node _ _ _ _ _ _ _ _ u x.result _ _ _ _ x.ensures e _ c.from-place.ensures p.if-booking-now.true
+    ]
 
-pub offset_bounds-free-place : goal.offset_bounds-free-place
-offset_bounds-free-place c =
-    let l = c.loop-i in
-    let a = c.args in
-    let s = bounded_sends a.costs a.job c.requires (nodes_length a.job c.well_formed.1.1.0) (shares_length a.job c.well_formed.1.1.0) in
-    let k = node_known a.costs a.job s l.i c.loop-i-test.true in
-    rw c.chunk_on-chunk.ensures (omega (arith, k))
-
-pub bounds-free-place : goal.bounds-free-place
-bounds-free-place c =
-    let l = c.loop-i in
-    let a = c.args in
-    let s = bounded_sends a.costs a.job c.requires (nodes_length a.job c.well_formed.1.1.0) (shares_length a.job c.well_formed.1.1.0) in
-    let k = node_known a.costs a.job s l.i c.loop-i-test.true in
-    rw c.chunk_on-chunk.ensures (omega (arith, k, l.invariant.1))
-
-pub returns-then-b-free : goal.returns-then-b-free
-returns-then-b-free c =
-    let l = c.loop-i in
-    let a = c.args in
-    let s = bounded_sends a.costs a.job c.requires (nodes_length a.job c.well_formed.1.1.0) (shares_length a.job c.well_formed.1.1.0) in
-    let w = c.chunk_terms-terms in
+pub loop-node-preserved : goal.loop-node-preserved
+loop-node-preserved c =
+    let l = c.loop-node in
     let x = c.chunk_on-chunk in
-    let now : FreeTimes = record { link = l.link; free = l.free } in
-    fitting_node a.costs a.times a.job s w.result w.ensures now l.last l.i l.invariant.3 c.loop-i-test.true x.result x.ensures c.if-b-free.true
-
-pub offset_bounds-free-place-in-loop-i : goal.offset_bounds-free-place-in-loop-i
-offset_bounds-free-place-in-loop-i c =
-    let l = c.loop-i in
-    let a = c.args in
-    let s = bounded_sends a.costs a.job c.requires (nodes_length a.job c.well_formed.1.1.0) (shares_length a.job c.well_formed.1.1.0) in
-    let k = node_known a.costs a.job s l.i c.loop-i-test.true in
-    rw c.chunk_on-chunk.ensures (omega (arith, k))
-
-pub bounds-free-place-in-loop-i : goal.bounds-free-place-in-loop-i
-bounds-free-place-in-loop-i c =
-    let l = c.loop-i in
-    let a = c.args in
-    let s = bounded_sends a.costs a.job c.requires (nodes_length a.job c.well_formed.1.1.0) (shares_length a.job c.well_formed.1.1.0) in
-    let k = node_known a.costs a.job s l.i c.loop-i-test.true in
-    rw c.chunk_on-chunk.ensures (omega (arith, k, l.invariant.1))
-
-pub loop-i-preserved : goal.loop-i-preserved
-loop-i-preserved c =
-    let l = c.loop-i in
-    let a = c.args in
-    let s = bounded_sends a.costs a.job c.requires (nodes_length a.job c.well_formed.1.1.0) (shares_length a.job c.well_formed.1.1.0) in
-    let w = c.chunk_terms-terms in
-    let x = c.chunk_on-chunk in
-    let more = c.loop-i-test.true in
-    let now : FreeTimes = record { link = l.link; free = l.free } in (
-      omega arith,
-      simp length-set l.invariant.1,
-      rw x.ensures (ends_next w.result a.job.booking s.nodes s.shares l.i l.last more l.invariant.2).1,
-      fitting_more a.costs a.times a.job s w.result w.ensures now l.last l.i l.invariant.3 more x.result x.ensures c.if-chunk-link.false c.if-b-free.false,
-    )
+    (simp length-set l.invariant.0, fitting_more _ _ _ _ _ _ _ _ l.invariant.1 x.result _ _ _ _ x.ensures c.in-Some.ensures.steps _ c.from-place.ensures c.if-chunk-now.false c.if-booking-now.false)
 
 pub returns : goal.returns
-returns c =
-    let l = c.loop-i in
-    let a = c.args in
-    let s = bounded_sends a.costs a.job c.requires (nodes_length a.job c.well_formed.1.1.0) (shares_length a.job c.well_formed.1.1.0) in
-    let w = c.chunk_terms-terms in
-    fitting_all a.costs a.times a.job s w.result w.ensures (record { link = l.link; free = l.free }) l.last l.i l.invariant.3 c.loop-i-test.false
+returns c = fitting_all _ _ _ _ _ _ _ _ c.loop-node.invariant.1 (⊎_elim (λ x. inl x.1.0) (λ x. inr x.1.0) c.in-None.ensures.steps)

@@ -1,14 +1,8 @@
--- `lines::answer::put_rows` meets its contract.
-use mathlib.Core.Path.{◌≡◌}
-use Prim.Native.Nat.{◌-◌, ◌*◌, ◌≤◌}
-use lib.ListN.{length, take}
+-- `lines::answer::put_rows` meets its contract: the lines of the records so far stand.
+use Rattle.std.proofs.Common.{◌*◌, take}
 use Rattle.lines.specs.AnswerLines.{row_texts}
 use Rattle.text.specs.Writing.{WroteWithin}
 use Rattle.lines.proofs.answer.put_rows.Given as goal
 
-abbrev pub invariant-loop-i : goal.invariant-loop-i
-invariant-loop-i l =
-    (l.i ≤ l.count) × WroteWithin (l.i * 176) (row_texts (take l.i l.rows)) l.at l.initial.out l.out l.place × (length l.out ≡ length l.initial.out)
-
-abbrev pub decreases-loop-i : goal.decreases-loop-i
-decreases-loop-i l = l.count - l.i
+abbrev pub invariant-loop-row : goal.invariant-loop-row
+invariant-loop-row l = WroteWithin (l.row-index * 176) (row_texts (take l.row-index l.rows)) l.at l.fn.out l.out l.place

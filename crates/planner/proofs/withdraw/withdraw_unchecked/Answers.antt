@@ -1,103 +1,68 @@
-use mathlib.Core.Path.{◌≡◌, refl, ◌∙◌}
+use mathlib.Core.Path.{◌≡◌, refl, ap, sym, ◌∙◌}
+use Rattle.std.specs.Prelude.{◌-◌, get_or, set}
+use Rattle.walk.specs.View.{no_entry}
+use Rattle.std.proofs.Common.{Some, None}
 use native.Mathlib.Omega.{arith}
-use Rattle.lists.specs.Places.{each_length}
-use Rattle.walk.specs.View.{job_at, jobs_of}
-use Rattle.queue.specs.Steps.{leave_start, leave_end}
-use Rattle.queue.specs.RowSteps.{sized_moved, leave_moved, leave_few, leave_standing, leave_found}
-use Rattle.planner.specs.Model.{farm_of}
+use lib.Seq.{length-take-le}
+use Rattle.planner.specs.declared.Figures.{Figures}
+use Rattle.planner.specs.Model.{Farm, meant, waiting_of}
+use Rattle.planner.specs.Parts.{parts_sized, with_entries}
 use Rattle.planner.specs.PassesSteps.{passes_within, passes_few}
-use Rattle.planner.specs.WithdrawSteps.{withdraws_none, withdraws_one}
-use Rattle.planner.proofs.Sizes.{figures_sized}
+use Rattle.planner.specs.PlaceSteps.{searched, place_has}
+use Rattle.planner.specs.WithdrawSteps.{withdraws_none, withdraws_one, leaves_first, leaves_few, leaves_moved, leaves_all}
 use Rattle.planner.proofs.withdraw.withdraw_unchecked.Goals as goal
-use Rattle.planner.proofs.withdraw.withdraw_unchecked.Goals.{then-kept-i, else-kept-i+then-job-number, else-kept-i+else-job-number}
+
+pub shared_ref_as_front-place_of : goal.shared_ref_as_front-place_of
+shared_ref_as_front-place_of c = (passes_within (meant c.args.farm.now) c.requires).waiting
+
+pub returns-in_default : goal.returns-in_default
+returns-in_default c =
+    let a = c.args in
+    withdraws_none a.farm.now a.number c.requires (searched a.number a.farm.now.cells.nodes a.farm.now.cells.shares a.farm.now.figures.waiting a.farm.now.figures.jobs None (sym c.place_of.ensures ∙ c.in_default.is))
 
 pub loop-i-init : goal.loop-i-init
 loop-i-init c =
     let a = c.args in
-    let z = figures_sized a.figures c.well_formed.0 in
-    let few = (passes_within (farm_of a.figures a.nodes.now a.shares.now) c.requires.1).waiting in (
-      few,
-      record { entries = z.jobs; nodes = c.requires.0.0; shares = c.requires.0.1 },
-      leave_start a.number (jobs_of a.nodes.now a.shares.now a.figures.jobs) a.figures.waiting (each_length (job_at a.nodes.now a.shares.now) 0 a.figures.jobs ∙ z.jobs) few,
-      λ _. (refl, refl),
-    )
-
-pub bounds-jobs-i : goal.bounds-jobs-i
-bounds-jobs-i c = omega (arith, c.loop-i.invariant.0, c.loop-i.invariant.1.entries, c.loop-i-test.true)
+    let f : Farm = meant a.farm.now in
+    let few = (passes_within f c.requires).waiting in
+    let z = parts_sized a.farm.now.figures a.farm.now.cells.nodes a.farm.now.cells.shares c.whole.ensures.0 c.whole.ensures.1 in
+    let at = searched a.number a.farm.now.cells.nodes a.farm.now.cells.shares a.farm.now.figures.waiting a.farm.now.figures.jobs (Some c.in-Some.place) (sym c.place_of.ensures ∙ c.in-Some.is) in
+    record {
+      same = refl;
+      left = leaves_first f a.number z.jobs few a.farm.now.cells.nodes a.farm.now.cells.shares a.farm.now.figures.jobs c.in-Some.place refl (record { entries = c.whole.ensures.0.jobs; nodes = c.whole.ensures.1.0; shares = c.whole.ensures.1.1 }) at.0 at.1;
+    }
 
 pub row_moved-requires : goal.row_moved-requires
 row_moved-requires c =
-    let l = c.loop-i in
     let a = c.args in
-    let old = jobs_of a.nodes.now a.shares.now a.figures.jobs in
-    let full = each_length (job_at a.nodes.now a.shares.now) 0 a.figures.jobs ∙ (figures_sized a.figures c.well_formed.0).jobs in
-    let up = c.if-kept-i.true in (
-      up,
-      omega (arith, l.invariant.0, c.loop-i-test.true),
-      omega (arith, leave_few a.number old a.figures.waiting full l.invariant.0 l.nodes l.shares l.jobs l.kept l.i c.loop-i-test.true l.invariant.1 l.invariant.2 up (passes_few (farm_of a.figures a.nodes.now a.shares.now) c.requires.1)),
-      l.invariant.1.nodes,
-      l.invariant.1.shares,
-    )
+    let l = c.loop-i in
+    let f : Farm = meant a.farm.now in
+    let few = (passes_within f c.requires).waiting in
+    let z = parts_sized a.farm.now.figures a.farm.now.cells.nodes a.farm.now.cells.shares c.whole.ensures.0 c.whole.ensures.1 in
+    let x = l.invariant.left in
+    (omega (arith, x.some), omega (arith, few, c.loop-i-test.true), omega (arith, leaves_few f a.number z.jobs few l.farm.cells.nodes l.farm.cells.shares l.farm.figures.jobs l.i x c.loop-i-test.true (passes_few f c.requires)))
 
 pub loop-i-preserved : goal.loop-i-preserved
 loop-i-preserved c =
     let a = c.args in
     let l = c.loop-i in
-    let h = c.loop-i-test.true in
-    let old = jobs_of a.nodes.now a.shares.now a.figures.jobs in
-    let full = each_length (job_at a.nodes.now a.shares.now) 0 a.figures.jobs ∙ (figures_sized a.figures c.well_formed.0).jobs in
-    let few = l.invariant.0 in
-    let z = l.invariant.1 in
-    let n = a.number in
-    let w = a.figures.waiting in
-    elim c.if-kept-i.branch [
-      | then-kept-i x ↦
-          let up = x.if-kept-i.true in
-          let short = leave_few n old w full few l.nodes l.shares l.jobs l.kept l.i h z l.invariant.2 up
-          (passes_few (farm_of a.figures a.nodes.now a.shares.now) c.requires.1) in
-          rw (x.nodes-is, x.shares-is, x.jobs-is, x.kept-is) (
-            few,
-            sized_moved l.nodes l.shares _ _ l.jobs l.kept l.i _ up (omega (arith, few, h)) z refl short x.row_moved.ensures,
-            leave_moved n old w full few l.nodes l.shares l.jobs l.kept l.i h z l.invariant.2 _ _ _ up refl short
-                x.row_moved.ensures,
-            λ q. absurd (omega (arith, up, q)),
-          )
-      | else-kept-i+then-job-number x ↦
-          rw (x.nodes-is, x.shares-is, x.jobs-is, x.kept-is) (
-            few,
-            z,
-            leave_standing n old w full few l.nodes l.shares l.jobs l.kept l.i h z l.invariant.2 x.if-kept-i.false
-                x.if-job-number.true,
-            λ q. l.invariant.3 (omega (arith, q)),
-          )
-      | else-kept-i+else-job-number x ↦
-          rw (x.nodes-is, x.shares-is, x.jobs-is, x.kept-is) (
-            few,
-            z,
-            leave_found n old w full few l.nodes l.shares l.jobs l.kept l.i h z l.invariant.2 x.if-kept-i.false
-                x.if-job-number.false,
-            λ q. l.invariant.3 (omega (arith, q)),
-          )
-    ]
-
-pub returns-then-kept-waiting : goal.returns-then-kept-waiting
-returns-then-kept-waiting c =
-    let a = c.args in
-    let l = c.loop-i in
-    let z = figures_sized a.figures c.well_formed.0 in
-    let old = jobs_of a.nodes.now a.shares.now a.figures.jobs in
-    let full = each_length (job_at a.nodes.now a.shares.now) 0 a.figures.jobs ∙ z.jobs in
-    let done = leave_end a.number old a.figures.waiting full l.invariant.0 (jobs_of l.nodes l.shares l.jobs) l.kept l.i c.loop-i-test.false l.invariant.2 in
-    let all : l.kept ≡ a.figures.waiting = c.if-kept-waiting.true in
-    withdraws_none a.figures a.nodes.now a.shares.now a.number l.kept l.jobs l.nodes l.shares c.requires.1 (omega (arith, z.jobs, l.invariant.0)) (l.invariant.1.nodes, l.invariant.1.shares) done _ _ _ all
-    (l.invariant.3 (omega (arith, l.invariant.2.looked, all)))
+    let f : Farm = meant a.farm.now in
+    let few = (passes_within f c.requires).waiting in
+    let z = parts_sized a.farm.now.figures a.farm.now.cells.nodes a.farm.now.cells.shares c.whole.ensures.0 c.whole.ensures.1 in
+    record {
+      same = ap (λ (x : Figures). with_entries x x.used x.waiting (set l.farm.figures.jobs (l.i - 1) (get_or l.farm.figures.jobs l.i no_entry))) l.invariant.same;
+      left = leaves_moved f a.number z.jobs few l.farm.cells.nodes l.farm.cells.shares l.farm.figures.jobs l.i l.invariant.left c.loop-i-test.true _ _ (passes_few f c.requires) c.row_moved.ensures;
+    }
 
 pub returns : goal.returns
 returns c =
     let a = c.args in
     let l = c.loop-i in
-    let z = figures_sized a.figures c.well_formed.0 in
-    let old = jobs_of a.nodes.now a.shares.now a.figures.jobs in
-    let full = each_length (job_at a.nodes.now a.shares.now) 0 a.figures.jobs ∙ z.jobs in
-    let done = leave_end a.number old a.figures.waiting full l.invariant.0 (jobs_of l.nodes l.shares l.jobs) l.kept l.i c.loop-i-test.false l.invariant.2 in
-    withdraws_one a.figures a.nodes.now a.shares.now a.number l.kept l.jobs l.nodes l.shares c.requires.1 (omega (arith, z.jobs, l.invariant.0)) (l.invariant.1.nodes, l.invariant.1.shares) done c.if-kept-waiting.false
+    let f : Farm = meant a.farm.now in
+    let few = (passes_within f c.requires).waiting in
+    let z = parts_sized a.farm.now.figures a.farm.now.cells.nodes a.farm.now.cells.shares c.whole.ensures.0 c.whole.ensures.1 in
+    let at = searched a.number a.farm.now.cells.nodes a.farm.now.cells.shares a.farm.now.figures.waiting a.farm.now.figures.jobs (Some c.in-Some.place) (sym c.place_of.ensures ∙ c.in-Some.is) in
+    let has = place_has a.number (waiting_of f) (omega (arith, at.0, at.1)) in
+    let end : l.i ≡ a.farm.now.figures.waiting = omega (arith, at.0, length-take-le a.farm.now.figures.waiting f.jobs (omega (arith, z.jobs, few)), c.loop-i.auto.i-end, c.loop-i-test.false) in
+    let all = leaves_all f a.number z.jobs few l.farm.cells.nodes l.farm.cells.shares l.farm.figures.jobs l.i l.invariant.left end in
+    withdraws_one a.farm.now a.number c.requires _ l.farm.figures l.farm.cells.nodes l.farm.cells.shares has l.invariant.same all.0 all.1

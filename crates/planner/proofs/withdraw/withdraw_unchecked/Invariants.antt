@@ -1,18 +1,13 @@
--- `withdraw::withdraw_unchecked` meets its contract. The loop's invariant: the jobs looked at are kept, all or all but
--- the one of the number; where all are, no row has moved.
+-- `withdraw::withdraw_unchecked` meets its contract: the jobs behind the one that leaves have moved up as far as the
+-- loop has come, and the other figures are as they were.
 use mathlib.Core.Path.{◌≡◌}
-use Prim.Native.Nat.{◌-◌, ◌≤◌}
-use Rattle.walk.specs.View.{jobs_of}
-use Rattle.queue.specs.Steps.{Leaving}
-use Rattle.queue.specs.RowSteps.{QueueSized}
+use Rattle.planner.specs.Model.{meant}
+use Rattle.planner.specs.Parts.{with_entries}
+use Rattle.planner.specs.WithdrawSteps.{Leaves}
 use Rattle.planner.proofs.withdraw.withdraw_unchecked.Given as goal
 
 abbrev pub invariant-loop-i : goal.invariant-loop-i
-invariant-loop-i l =
-    (l.waiting ≤ 128)
-    × QueueSized l.nodes l.shares l.jobs
-    × Leaving l.number (jobs_of l.initial.nodes l.initial.shares l.initial.jobs) l.waiting (jobs_of l.nodes l.shares l.jobs) l.kept l.i
-    × (l.i ≤ l.kept → (l.nodes ≡ l.initial.nodes) × (l.shares ≡ l.initial.shares))
-
-abbrev pub decreases-loop-i : goal.decreases-loop-i
-decreases-loop-i l = l.waiting - l.i
+invariant-loop-i l = record {
+  same : l.farm.figures ≡ with_entries l.fn.farm.figures l.fn.farm.figures.used l.fn.farm.figures.waiting l.farm.figures.jobs;
+  left : Leaves (meant l.fn.farm) l.fn.number l.farm.cells.nodes l.farm.cells.shares l.farm.figures.jobs l.i;
+}

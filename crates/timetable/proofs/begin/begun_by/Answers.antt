@@ -1,59 +1,49 @@
-use mathlib.Core.Path.{refl}
 use native.Mathlib.Omega.{arith}
+use lib.ListN.{get_or}
+use Prim.Native.Nat.{◌-◌, ◌≤◌}
+use Rattle.limits.specs.Model.{most_held}
+use Rattle.walk.specs.declared.Job.{Job}
+use Rattle.walk.specs.Model.{in_order}
 use Rattle.walk.specs.View.{jobs_of}
 use Rattle.walk.specs.Chunks.{Sendable}
-use Rattle.timetable.specs.LinesSteps.{place_within, named_entry, named_all}
+use Rattle.timetable.specs.LinesSteps.{place_within, entry_next, entry_all, named_none}
 use Rattle.timetable.specs.BegunSteps.{beginning_raises, beginning_next, beginning_all}
 use Rattle.timetable.proofs.begin.begun_by.Goals as goal
 
-pub loop-i-init : goal.loop-i-init
-loop-i-init c = (omega arith, record { size = omega arith; after = refl; ticks = refl; most = λ k. omega arith })
-
-pub offset_bounds-jobs-place : goal.offset_bounds-jobs-place
-offset_bounds-jobs-place c =
-    omega (arith, place_within c.args.keys c.args.count c.loop-i.i c.loop-i-test.true (omega arith) c.requires.3)
-
-pub bounds-jobs-place : goal.bounds-jobs-place
-bounds-jobs-place c =
-    omega (arith, place_within c.args.keys c.args.count c.loop-i.i c.loop-i-test.true (omega arith) c.requires.3)
-
-pub occupied-link-requires : goal.occupied-link-requires
-occupied-link-requires c =
+pub occupied-requires : goal.occupied-requires
+occupied-requires c =
     let a = c.args in
-    let l = c.loop-i in
-    let h = c.loop-i-test.true in
-    let q = named_entry a.keys a.count l.i h (omega arith) a.nodes.now a.shares.now a.jobs (omega arith) c.requires.3 in (
-      place_within a.keys a.count l.i h (omega arith) c.requires.3,
-      c.requires.1,
-      c.requires.2,
-      named_all a.keys a.count l.i h (omega arith) (jobs_of a.nodes.now a.shares.now a.jobs) _ q (Sendable a.costs) c.requires.4.sends,
-    )
+    let k = c.loop-key.key-index in
+    let h = c.loop-key-test.true in
+    (place_within a.keys.now k h c.requires.1, entry_all a.keys.now k h a.cells.now.nodes a.cells.now.shares a.jobs.now c.told-jobs c.requires.1 (Sendable a.costs) c.requires.2.sends)
 
 pub raise-requires : goal.raise-requires
 raise-requires c =
     let a = c.args in
-    let l = c.loop-i in
-    let h = c.loop-i-test.true in
-    let q = named_entry a.keys a.count l.i h (omega arith) a.nodes.now a.shares.now a.jobs (omega arith) c.requires.3 in (
-      place_within a.keys a.count l.i h (omega arith) c.requires.3,
-      c.requires.1,
-      c.requires.2,
-      beginning_raises a.costs (jobs_of a.nodes.now a.shares.now a.jobs) a.keys a.count l.i h (omega arith) _ q a.times a.held (record { link = l.link; free = l.free }) l.cells l.invariant.1 c.requires.0 c.requires.4,
+    let l = c.loop-key in
+    let h = c.loop-key-test.true in
+    let jobs = jobs_of a.cells.now.nodes a.cells.now.shares a.jobs.now in
+    let all = entry_all a.keys.now l.key-index h a.cells.now.nodes a.cells.now.shares a.jobs.now c.told-jobs c.requires.1 in
+    let r = c.requires.2 in (
+      place_within a.keys.now l.key-index h c.requires.1,
+      beginning_raises a.costs (in_order jobs a.keys.now) a.times a.held l.begun.times l.begun.held l.key-index _ l.invariant _ (omega (arith, h, c.requires.0))
+          (all (Sendable a.costs) r.sends) (all (λ (j : Job). (1 ≤ j.show) × (j.show ≤ 32)) r.shows) (all (λ (j : Job). get_or a.held (j.show - 1) 0 ≤ most_held) r.room),
     )
 
-pub loop-i-preserved : goal.loop-i-preserved
-loop-i-preserved c =
+pub loop-key-preserved : goal.loop-key-preserved
+loop-key-preserved c =
     let a = c.args in
-    let l = c.loop-i in
-    let h = c.loop-i-test.true in
-    let jobs = jobs_of a.nodes.now a.shares.now a.jobs in
-    let q = named_entry a.keys a.count l.i h (omega arith) a.nodes.now a.shares.now a.jobs (omega arith) c.requires.3 in
-    let sends = named_all a.keys a.count l.i h (omega arith) jobs _ q (Sendable a.costs) c.requires.4.sends in
-    let next = beginning_next a.costs jobs a.keys a.count l.i h (omega arith) _ q a.times a.held (record { link = l.link; free = l.free }) l.cells l.invariant.1 sends in
-    (omega arith, rw (c.occupied-link.ensures, c.raise.ensures) next)
+    let l = c.loop-key in
+    let h = c.loop-key-test.true in
+    let ks = a.cells.now.nodes in
+    let xs = a.cells.now.shares in
+    let sends = entry_all a.keys.now l.key-index h ks xs a.jobs.now c.told-jobs c.requires.1 (Sendable a.costs) c.requires.2.sends in
+    let next = entry_next a.keys.now l.key-index h ks xs a.jobs.now c.told-jobs c.requires.1 in
+    rw (c.occupied.ensures, c.raise.ensures) (beginning_next a.costs (in_order (jobs_of ks xs a.jobs.now) a.keys.now) a.times a.held l.begun.times l.begun.held l.key-index _ l.invariant _ _ next sends)
 
 pub returns : goal.returns
 returns c =
     let a = c.args in
-    let l = c.loop-i in
-    beginning_all a.costs (jobs_of a.nodes.now a.shares.now a.jobs) a.keys a.count l.i a.times a.held (record { link = l.link; free = l.free }) l.cells c.loop-i-test.false (omega arith) l.invariant.1
+    let l = c.loop-key in
+    let jobs = jobs_of a.cells.now.nodes a.cells.now.shares a.jobs.now in
+    beginning_all a.costs (in_order jobs a.keys.now) a.times a.held l.begun.times l.begun.held l.key-index _ l.invariant (named_none jobs a.keys.now l.key-index c.loop-key-test.false)

@@ -1,73 +1,46 @@
-use mathlib.Core.Path.{refl, sym, ap, ◌∙◌}
-use Prim.Native.Nat.{◌-◌}
-use native.Mathlib.Omega.{arith}
-use Rattle.walk.specs.View.{job_at, booking_at, chunk_cells}
-use Rattle.walk.specs.Chunks.{lines_none, ends_next, ends_all, chunk_fits}
+use Rattle.std.proofs.Common.{rules, ◌≡◌, ◌-◌, ◌∙◌, sym, arith, ap, inl, inr, ⊎_elim}
+use Rattle.walk.specs.Model.{chunks_from}
+use Rattle.walk.specs.View.{row_lines}
+use Rattle.walk.specs.Chunks.{latest_after, chunks_done}
 use Rattle.timetable.specs.Model.{raised}
 use Rattle.timetable.specs.HeldSteps.{raising_next}
 use Rattle.timetable.proofs.begin.raise.Goals as goal
 
-pub overflow_sub-cell : goal.overflow_sub-cell
-overflow_sub-cell c = omega (arith, c.requires.3.show)
-
-pub loop-i-init : goal.loop-i-init
-loop-i-init c =
+-- The check finds this alone; where it stands here, other costs in the terms fail at it first.
+pub loop-node-init : goal.loop-node-init
+loop-node-init c =
     let a = c.args in
-    let w = c.entry_terms-terms in
-    (omega arith, record { same = refl; ends = ends_all a.costs (job_at a.nodes.now a.shares.now a.place a.job) c.requires.3.sends w.result w.ensures; most = omega arith })
-
-pub overflow_add-at : goal.overflow_add-at
-overflow_add-at c = omega (arith, c.requires.0, c.requires.3.sends.few)
-
-pub bounds-nodes-at : goal.bounds-nodes-at
-bounds-nodes-at c = omega (arith, c.requires.0, c.requires.1, c.requires.3.sends.few)
-
-pub overflow_add-at-in-loop-i : goal.overflow_add-at-in-loop-i
-overflow_add-at-in-loop-i c = omega (arith, c.requires.0, c.requires.3.sends.few)
-
-pub offset_bounds-shares-at : goal.offset_bounds-shares-at
-offset_bounds-shares-at c = omega (arith, c.requires.0, c.requires.3.sends.few)
-
-pub bounds-shares-at : goal.bounds-shares-at
-bounds-shares-at c = omega (arith, c.requires.0, c.requires.2, c.requires.3.sends.few)
+    let row = c.row.ensures in
+    let own : c.into_iter-node-iterator.result.a.rest.now ≡ c.row.result.0.now = search rules in
+    let parts : c.into_iter-node-iterator.result.b.rest.now ≡ c.row.result.1.now = search rules in
+    let lines = row_lines a.costs c.chunk_terms-terms.result a.job a.place a.cells.now.nodes a.cells.now.shares _ _ c.chunk_terms-terms.ensures row.0 row.1 row.2 row.3 in
+    rw (own, parts) (record { same = ap (raised a.held.now) lines; ends = rw lines at c.requires.1.sends.ends; most = omega (arith, row.1, c.requires.1.sends.few) })
 
 pub chunk_on-chunk-requires : goal.chunk_on-chunk-requires
 chunk_on-chunk-requires c =
-    let l = c.loop-i in
-    let w = c.entry_terms-terms in
-    let a = c.args in
-    chunk_fits a.costs (job_at a.nodes.now a.shares.now a.place a.job) c.requires.3.sends w.result w.ensures l.i l.last l.invariant.1.ends
+    let s = c.requires.1.sends in
+    let l = c.loop-node in
+    rw c.chunk_terms-terms.ensures (s.costs, s.compute, omega (arith, l.invariant.ends, latest_after l.last (chunks_from c.chunk_terms-terms.result l.last l.node-iterator.a.rest.now l.node-iterator.b.rest.now)))
 
 pub overflow_add-held : goal.overflow_add-held
 overflow_add-held c =
-    let l = c.loop-i in
-    let w = c.entry_terms-terms.result in
-    let a = c.args in
-    let h = c.loop-i-test.true in
-    let x = c.requires.3.sends in
-    let b = booking_at a.nodes.now a.shares.now a.place a.job.start a.job.count in
-    let e = c.chunk_on-chunk.ensures ∙ chunk_cells w a.nodes.now a.shares.now a.place a.job.start a.job.count l.i l.last h x.few c.requires.0 c.requires.1 c.requires.2 in
-    let n = ends_next w b x.nodes x.shares l.i l.last h l.invariant.1.ends in
-    rw (c.difference.ensures, e) (omega (arith, n.0, c.requires.3.room, x.few, l.invariant.1.most))
+    let l = c.loop-node in
+    let w = c.chunk_terms-terms in
+    let x = c.chunk_on-chunk in
+    let next = raising_next w.result (c.args.job.show - 1) (rw w.ensures) c.args.held.now _ l.held l.last x.result _ _ _ _ _ _ x.ensures c.in-Some.ensures.steps l.invariant in
+    omega (arith, c.saturating_sub.ensures, next.0, next.1, l.invariant.most, c.requires.1.room)
 
-pub loop-i-preserved : goal.loop-i-preserved
-loop-i-preserved c =
-    let l = c.loop-i in
-    let w = c.entry_terms-terms in
-    let a = c.args in
-    let h = c.loop-i-test.true in
-    let x = c.requires.3.sends in
-    let b = booking_at a.nodes.now a.shares.now a.place a.job.start a.job.count in
-    let e = c.chunk_on-chunk.ensures ∙ chunk_cells w.result a.nodes.now a.shares.now a.place a.job.start a.job.count l.i l.last h x.few c.requires.0 c.requires.1 c.requires.2 in
-    rw (c.difference.ensures, e) (omega arith, raising_next w.result b x.nodes x.shares (a.job.show - 1) (rw w.ensures) a.held.now l.held l.last l.i h l.invariant.1)
+pub loop-node-preserved : goal.loop-node-preserved
+loop-node-preserved c =
+    let l = c.loop-node in
+    let w = c.chunk_terms-terms in
+    let x = c.chunk_on-chunk in
+    let next = raising_next w.result (c.args.job.show - 1) (rw w.ensures) c.args.held.now _ l.held l.last x.result _ _ _ _ _ _ x.ensures c.in-Some.ensures.steps l.invariant in
+    rw c.saturating_sub.ensures next.2
 
 pub returns : goal.returns
 unfolding raised
 returns c =
-    let l = c.loop-i in
-    let w = c.entry_terms-terms in
-    let a = c.args in
-    let x = c.requires.3.sends in
-    let b = booking_at a.nodes.now a.shares.now a.place a.job.start a.job.count in
-    let none = lines_none w.result b x.nodes x.shares l.i l.last c.loop-i-test.false in
-    rw (← w.ensures) (sym (l.invariant.1.same ∙ ap (raised l.held) none))
+    let l = c.loop-node in
+    let none = chunks_done c.chunk_terms-terms.result l.last _ _ (⊎_elim (λ x. inl x.1.0) (λ x. inr x.1.0) c.in-None.ensures.steps) in
+    sym (l.invariant.same ∙ ap (raised l.held) none)

@@ -1,8 +1,0 @@
--- `queue::empty_job` meets its contract.
-use mathlib.Core.Path.{refl}
-use Rattle.booking.specs.Model.{booking_of}
-use Rattle.queue.proofs.empty_job.Goals as goal
-
-pub returns : goal.returns
-unfolding booking_of
-returns c = refl
