@@ -1,5 +1,5 @@
 -- A clock move and showing, question by question: what the functions of src/clock.rt need and promise each other.
-use Rattle.std.specs.Prelude.{◌≡◌, refl, Bool, true, false, cond, not, ℕ, zero, suc, ◌+◌, ◌-◌, ◌≤◌, ◌<◌, leb, eqb, get_or, take, set, Result, Ok, Err, is_ok, IfOk}
+use Rattle.std.specs.Prelude.{◌≡◌, refl, Bool, true, false, cond, not, ℕ, zero, suc, ◌+◌, ◌-◌, ◌≤◌, ◌<◌, leb, eqb, get_or, take, set, Result, Ok, Err, is_ok}
 use Rattle.std.proofs.Math.Path.{ap, sym}
 use Rattle.std.proofs.Common.{ap₂, subst, ◌∙◌, arith, leb-true, le-leb, eqb-true, eq-eqb, ne_eqb, take-append-drop, take_at}
 use mathlib.Core.List.Permᴰ
@@ -35,13 +35,13 @@ use Rattle.planner.specs.declared.Reply.{Reply}
 use Rattle.answers.specs.declared.Question.{Question}
 use Rattle.answers.specs.declared.Question.TheVariants as question
 use Rattle.answers.specs.declared.Granted.TheVariants as answer
+use Rattle.answers.specs.declared.Granted.{Granted}
 use Rattle.planner.specs.declared.Move.{Move}
 use Rattle.planner.specs.Model.{Farm, meant, greatest, most_held, between, Between, no_job, afters, in_order, by_start, waiting_of, free_times_of, JobSized, Sized}
 use Rattle.planner.specs.Passes.{passes_of, bounds_of, JobWithin}
 use Rattle.planner.specs.PassesSteps.{passes_within, passes_jobs, passes_few}
 use Rattle.planner.specs.Changes.{with_jobs, at_time}
-use Rattle.planner.specs.Calls.{Clock, Shown, Said, said, told, number_of, granted, refused, Replies, Tells}
-use Rattle.planner.specs.CallsSteps.{refuses}
+use Rattle.planner.specs.Calls.{Clock, Shown, said, number_of, granted, Replies, Tells}
 use Rattle.planner.specs.Clock.{keep, starts_by, starts_after, lines_of_all, raised, begun, waiting_on, issued, moved_farm, move_asked, move_said, move_farm, move_memory, move_lines, shown, shown_asked, shown_said, shown_memory, shown_lines}
 
 -- what questions 11, 9 and 10 ask, all answered yes
@@ -303,62 +303,63 @@ module _ (f : Farm) (t : ℕ) (size : length f.jobs ≡ 128) (most : f.waiting �
           left = kept_moved ks xs ks' xs' hs kept i (get_or hs i no_entry).count g (omega arith) x.sized refl (waits_few a) m (waiting_on f t) f.jobs _ next;
         }
 
--- what a move says before its lines are written
-abbrev pub step_said : Result Move Question → Said
-step_said (Ok m) = told m.answer
-step_said (Err q) = refused (number_of q)
-
--- what a move on a farm that passes comes to before its lines are written
-pub record MoveDecides (f : Farm) (t n : ℕ) (r : Result Move Question) : Type 0 where
-  pub says : step_said r ≡ move_said f t n
-  pub granted : is_ok r ≡ eqb (move_asked f t n) 0
-  pub due : IfOk r (λ m. IsDue f.jobs f.waiting t m.due)
+-- what a move on a farm that passes comes to before its lines are written; what is due is said of a refused one too
+pub record MoveDecides (f : Farm) (t n : ℕ) (r : Move) : Type 0 where
+  pub says : said r.answer ≡ move_said f t n
+  pub granted : is_ok r.answer ≡ eqb (move_asked f t n) 0
+  pub due : IsDue f.jobs f.waiting t r.due
   pub sized : Sized f
 
-module _ (f : Farm) (t n : ℕ) (sized : Sized f) where
-  -- Refused with 11: the farm.
-  pub decides_unsound : passes_of f ≡ false → MoveDecides f t n (Err question.Farm)
-  unfolding move_said
-  decides_unsound e = let a = move_unsound f t n e in record { says = rw a; granted = rw a; due = tt; sized = sized }
-
-  -- Refused with 9: the time.
-  pub decides_untimely : passes_of f ≡ true → between f.clock t greatest ≡ false → MoveDecides f t n (Err question.Time)
-  unfolding move_said
-  decides_untimely e b = let a = move_untimely f t n e b in record { says = rw a; granted = rw a; due = tt; sized = sized }
-
 module _ (f : Farm) (t n : ℕ) (d : Due) (sized : Sized f) (x : Begins f t d) where
+  -- Refused with 9: the time.
+  pub decides_untimely : between f.clock t greatest ≡ false → MoveDecides f t n (record { answer = Err question.Time; due = d })
+  unfolding move_said
+  decides_untimely b = let a = move_untimely f t n x.passes b in record { says = rw a; granted = rw a; due = x.due; sized = sized }
+
   -- Refused with 10: the lent timetable.
-  pub decides_unheld : between f.clock t greatest ≡ true → n < d.lines → MoveDecides f t n (Err question.Lines)
+  pub decides_unheld : between f.clock t greatest ≡ true → n < d.lines → MoveDecides f t n (record { answer = Err question.Lines; due = d })
   unfolding move_said
   decides_unheld b h =
       let a = move_unheld f t n x.passes b (lt-leb (length (issued f t)) n (omega (arith, begins_count f t d sized x))) in
-      record { says = rw a; granted = rw a; due = tt; sized = sized }
+      record { says = rw a; granted = rw a; due = x.due; sized = sized }
 
   -- Granted.
-  pub decides_granted : between f.clock t greatest ≡ true → d.lines ≤ n → MoveDecides f t n (Ok (record { answer = answer.Clock t d.lines; due = d }))
+  pub decides_granted : between f.clock t greatest ≡ true → d.lines ≤ n → MoveDecides f t n (record { answer = Ok (answer.Clock t d.lines); due = d })
   unfolding move_said
   decides_granted b h =
       let a = move_asked_lem f t n x.passes b (le-leb (length (issued f t)) n (omega (arith, begins_count f t d sized x))) in
       record { says = rw a (ap (λ (i : ℕ). granted Clock (t ∷ i ∷ [])) (sym (begins_count f t d sized x))); granted = rw a; due = x.due; sized = sized }
 
 -- What follows for the farm that is handed back, and for the lines.
-pub move_refused : (f : Farm) (t n : ℕ) (q : Question) → MoveDecides f t n (Err q) → (move_farm f t n ≡ f) × (move_lines f t n ≡ [])
-unfolding move_farm
-move_refused f t n q x = let z = sym x.granted in (rw z, rw z)
+module _ (f : Farm) (t n : ℕ) (r : Move) (x : MoveDecides f t n r) where
+  pub move_refused : is_ok r.answer ≡ false → (move_farm f t n ≡ f) × (move_lines f t n ≡ [])
+  unfolding move_farm
+  move_refused e = let z = sym x.granted ∙ e in (rw z, rw z)
 
-pub move_taken : (f : Farm) (t n : ℕ) (r : Move) → MoveDecides f t n (Ok r) → (move_farm f t n ≡ moved_farm f t) × (move_lines f t n ≡ issued f t) × (length (issued f t) ≤ n)
-unfolding move_farm
-move_taken f t n r x = let z = sym x.granted in (rw z, rw z, (move_granted f t n (eqb-true (move_asked f t n) 0 z)).lines)
+  pub move_taken : is_ok r.answer ≡ true → (move_farm f t n ≡ moved_farm f t) × (move_lines f t n ≡ issued f t) × (length (issued f t) ≤ n)
+  unfolding move_farm
+  move_taken e = let z = sym x.granted ∙ e in (rw z, rw z, (move_granted f t n (eqb-true (move_asked f t n) 0 z)).lines)
 
 -- ---- A clock move
 
 -- A move that is refused hands back the very farm, and writes nothing.
-pub move_stops : (f : stored.Farm) (t : ℕ) (m : List Chunk) (q : Question) (r : Reply) → r ≡ record { answer = Err q; farm = f } → MoveDecides (meant f) t (length m) (Err q)
+pub move_stops : (f : stored.Farm) (t : ℕ) (m : List Chunk) (a : Result Granted Question) (r : Reply) → r ≡ record { answer = a; farm = f } → said a ≡ move_said (meant f) t (length m) → eqb (move_asked (meant f) t (length m)) 0 ≡ false
     → Replies f r (move_said (meant f) t (length m)) (move_farm (meant f) t (length m)) × (m ≡ move_memory (meant f) t m)
 unfolding move_farm move_memory
-move_stops f t m q r e x =
-    let z = sym x.granted in
-    (refuses f r q (move_said (meant f) t (length m)) (move_farm (meant f) t (length m)) e (sym x.says) (rw z), rw z)
+move_stops f t m a r e says z = (
+  record {
+    says = ap (λ (x : Reply). said x.answer) e ∙ says;
+    hands = ap (λ (x : Reply). meant x.farm) e ∙ rw z;
+    same = λ _. ap (λ (x : Reply). x.farm) e;
+  },
+  rw z,
+)
+
+-- So does one to a farm that does not pass.
+pub move_unsound_stops : (f : stored.Farm) (t : ℕ) (m : List Chunk) (r : Reply) → r ≡ record { answer = Err question.Farm; farm = f } → passes_of (meant f) ≡ false
+    → Replies f r (move_said (meant f) t (length m)) (move_farm (meant f) t (length m)) × (m ≡ move_memory (meant f) t m)
+unfolding move_said
+move_unsound_stops f t m r e p = let a = move_unsound (meant f) t (length m) p in move_stops f t m (Err question.Farm) r e (rw a) (rw a)
 
 move_number : (f : Farm) (t n : ℕ) → eqb (move_asked f t n) 0 ≡ true → (move_said f t n).number ≡ 0
 unfolding move_said
@@ -382,12 +383,12 @@ module _ (f : Farm) (t : ℕ) (d : Due) (sized : Sized f) (x : Begins f t d) (js
   due_written m = rw (due_lines, due_count)
 
 -- A move that is granted writes the lines of what begins.
-pub move_goes : (f : stored.Farm) (t : ℕ) (m out : List Chunk) (r : Move) (next : stored.Farm) → MoveDecides (meant f) t (length m) (Ok r)
+pub move_goes : (f : stored.Farm) (t : ℕ) (m out : List Chunk) (r : Move) (next : stored.Farm) → MoveDecides (meant f) t (length m) r → is_ok r.answer ≡ true
     → meant next ≡ moved_farm (meant f) t → out ≡ issued (meant f) t ++ drop (length (issued (meant f) t)) m
-    → Replies f (record { answer = Ok r.answer; farm = next }) (move_said (meant f) t (length m)) (move_farm (meant f) t (length m)) × (out ≡ move_memory (meant f) t m)
+    → Replies f (record { answer = r.answer; farm = next }) (move_said (meant f) t (length m)) (move_farm (meant f) t (length m)) × (out ≡ move_memory (meant f) t m)
 unfolding move_farm move_memory
-move_goes f t m out r next x e o =
-    let z = sym x.granted in (
+move_goes f t m out r next x g e o =
+    let z = sym x.granted ∙ g in (
       record {
         says = x.says;
         hands = e ∙ rw z;

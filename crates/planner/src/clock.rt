@@ -17,28 +17,34 @@ use timetable::begin::{Begun, begun_by, due, line_count};
 use timetable::lines::write_lines;
 use walk::{Chunk, FreeTimes, by_start, gathered};
 
-// A clock move on a farm that passes question 11: questions 9 and 10 in that order, and what begins. The farm stays as
-// it is: the caller may change one figure of it where nothing begins.
-pub fn move_unchecked(farm: &Farm, time: u64, room: usize) -> Result<Move, Question>
+// A clock move on a farm that passes question 11: questions 9 and 10 in that order, and what begins by that time, also
+// where the move is refused. The farm stays as it is: the caller may change one figure of it where nothing begins.
+pub fn move_unchecked(farm: &Farm, time: u64, room: usize) -> Move
     requires { passes_of (meant farm.now) ≡ true }
     ensures { MoveDecides (meant farm.now) time room result }
 {
     farm.whole();
     let figures = &farm.figures;
-    if !(figures.clock..=GREATEST).contains(&time) {
-        return Err(Question::Time);
-    }
     let due = due(&figures.jobs[..figures.waiting], time);
-    if room < due.lines {
-        return Err(Question::Lines);
+    if !(figures.clock..=GREATEST).contains(&time) {
+        return Move {
+            answer: Err(Question::Time),
+            due,
+        };
     }
-    Ok(Move {
-        answer: Granted::Clock {
+    if room < due.lines {
+        return Move {
+            answer: Err(Question::Lines),
+            due,
+        };
+    }
+    Move {
+        answer: Ok(Granted::Clock {
             time,
             lines: due.lines as u64,
-        },
+        }),
         due,
-    })
+    }
 }
 
 // The farm moved to `time`: what is due begins, in order of start, and the others keep the order that they have, each
@@ -86,19 +92,21 @@ impl Farm {
         if !passes(&self) {
             return refused(self, Question::Farm);
         }
-        match move_unchecked(&self, time, out.len()) {
-            Ok(step) => {
-                let due = step.due;
-                let waiting = jobs_of(&self.figures.jobs[..self.figures.waiting], &self.cells);
-                let jobs = gathered(&waiting, &due.keys[..due.count]);
-                write_lines(out, self.figures.costs, &jobs[..due.count]);
-                moved(&mut self, due, time);
-                Reply {
-                    answer: Ok(step.answer),
-                    farm: self,
-                }
-            }
-            Err(question) => refused(self, question),
+        let step = move_unchecked(&self, time, out.len());
+        if step.answer.is_err() {
+            return Reply {
+                answer: step.answer,
+                farm: self,
+            };
+        }
+        let due = step.due;
+        let waiting = jobs_of(&self.figures.jobs[..self.figures.waiting], &self.cells);
+        let jobs = gathered(&waiting, &due.keys[..due.count]);
+        write_lines(out, self.figures.costs, &jobs[..due.count]);
+        moved(&mut self, due, time);
+        Reply {
+            answer: step.answer,
+            farm: self,
         }
     }
 

@@ -115,10 +115,11 @@ pub struct Decision {
     pub jobs: [QueueEntry; 128],
 }
 
-// What a granted clock move comes to before its lines are written: its answer, and what begins.
+// What a clock move comes to before its lines are written: its answer, and what begins by its time. It is no Result:
+// what would have begun is said of a refused move too (`MoveDecides`, specs/ClockSteps.antt).
 #[derive(Clone, Copy)]
 pub struct Move {
-    pub answer: Granted,
+    pub answer: Answer,
     pub due: Due,
 }
 

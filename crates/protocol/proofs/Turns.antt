@@ -1,12 +1,11 @@
 -- What a line comes to, for the functions that answer it: what is put by one order, and what a row's order asks for.
-use Rattle.std.specs.Prelude.{Option, None, Some, cond, false, Ok, Result}
+use Rattle.std.specs.Prelude.{Option, None, Some, cond, false}
 use Rattle.std.proofs.Common.{◌≡◌, refl, ap, sym, subst, ◌∙◌, Bool, true, List, ℕ, arith}
 use Rattle.std.proofs.lemmas.Option.{none-some, cond_some}
 use Rattle.text.specs.Writing.{WroteWithin, within_same}
 use Rattle.reading.specs.declared.Row.{Row}
-use Rattle.answers.specs.declared.Question.{Question}
 use Rattle.planner.specs.declared.Move.{Move}
-use Rattle.planner.specs.Model.{Farm, Sized}
+use Rattle.planner.specs.Model.{Farm}
 use Rattle.planner.specs.ClockSteps.{Begins, MoveDecides}
 use Rattle.lines.specs.declared.Order.{Order}
 use Rattle.lines.specs.Model.{lent, asked, in_turn, Answered, answered_text, answer_to}
@@ -67,9 +66,6 @@ module _ (farm : Farm) (row : Row) {kept : Option Order} (is : kept ≡ order_ke
         ∙ turns.1
         ∙ ap (λ (x : Option Order). order_answer farm x row.numbers (allowances_in row)) some.0
 
--- What is known of a clock move that is granted on an opened farm that was reached: what it begins, and what it decides.
-pub move_begins : (f : Farm) → Reachable f → f.opened ≡ true → (t : ℕ) {r : Result Move Question} {step : Move} → r ≡ Ok step → MoveDecides f t lent r
-    → Sized f × Begins f t step.due × MoveDecides f t lent (Ok step)
-move_begins f reached o t is decides =
-    let x = rw is at decides in
-    (x.sized, record { passes = reachable_passes f reached o; due = x.due }, x)
+-- What is known of a clock move on an opened farm that was reached: what is due by its time.
+pub move_begins : (f : Farm) → Reachable f → f.opened ≡ true → (t : ℕ) {step : Move} → MoveDecides f t lent step → Begins f t step.due
+move_begins f reached o t x = record { passes = reachable_passes f reached o; due = x.due }

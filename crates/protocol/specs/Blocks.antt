@@ -14,7 +14,7 @@ use Rattle.lines.specs.Model.{Answered, answered_text, Pending, part, long, ende
 use Rattle.lines.specs.Feeding.{stretch, kept_all, fed_line, fed_rest}
 use Rattle.lines.specs.Rows.{pending_of, none_pending}
 use Rattle.lines.specs.AnswerLines.{largest}
-use Rattle.protocol.specs.Promises.{day_farm, Took, end_text}
+use Rattle.protocol.specs.Promises.{day_farm, Took, Ended, ends_line, end_text}
 use Rattle.protocol.specs.Reachable.{Reachable, feed_reachable}
 
 module _ (f : Farm) (r : Rest) (block : List ℕ) (from : ℕ) (entry : List ℕ) where
@@ -128,17 +128,32 @@ end_line f p room h e = rw (le-leb largest room h) (go p e)
     go (part (b ∷ l)) e = refl
     go long e = refl
 
--- A newline ends the line that is pending.
-pub end_took : (f : Farm) (p : Pending) (entry exit : List ℕ) (r : Progress) (day : Session) → Took f p (newline ∷ []) 0 entry exit r day → largest ≤ length entry
-    → WroteWithin (length entry) (answered_text (ended f p)) 0 entry exit r.written
+-- A newline ends the line that is pending: where there is room for its answer it is taken,
+end_next : (f : Farm) (p : Pending) (entry exit : List ℕ) (r : Progress) (day : Session) → Took f p (newline ∷ []) 0 entry exit r day → largest ≤ length entry → r.next ≡ 1
 unfolding feed
-end_took f p entry exit r day t h = go r.next refl
+end_next f p entry exit r day t h = go r.next refl
   where
-    at : (n : ℕ) → r.next ≡ n → WroteWithin (length entry) (feed f p (stretch 0 n (newline ∷ []))).text 0 entry exit r.written
-    at n e = subst (λ (k : ℕ). WroteWithin (length entry) (feed f p (stretch 0 k (newline ∷ []))).text 0 entry exit r.written) e t.wrote
+    none : r.next ≡ 0 → WroteWithin (length entry) [] 0 entry exit r.written
+    none e = subst (λ (k : ℕ). WroteWithin (length entry) (feed f p (stretch 0 k (newline ∷ []))).text 0 entry exit r.written) e t.wrote
 
-    go : (n : ℕ) → r.next ≡ n
-        → WroteWithin (length entry) (answered_text (ended f p)) 0 entry exit r.written
-    go zero e = absurd (omega (arith, (at 0 e).wrote.place, t.stops (omega arith)))
-    go (suc zero) e = within_same (append-nil (answered_text (ended f p))) (at 1 e)
+    go : (n : ℕ) → r.next ≡ n → n ≡ 1
+    go zero e = absurd (omega (arith, (none e).wrote.place, t.stops (omega arith)))
+    go (suc zero) e = refl
     go (suc (suc n)) e = absurd (omega (arith, t.inside (omega arith)))
+
+module _ (f : Farm) (p : Pending) (entry exit : List ℕ) (r : Progress) (day : Session) (t : Took f p (newline ∷ []) 0 entry exit r day) (h : largest ≤ length entry) where
+  taken : feed f p (stretch 0 r.next (newline ∷ [])) ≡ record { farm = (ended f p).farm; pending = part []; text = answered_text (ended f p) ++ [] }
+  unfolding feed
+  taken = ap (λ (k : ℕ). feed f p (stretch 0 k (newline ∷ []))) (end_next f p entry exit r day t h)
+
+  -- its answer is written,
+  pub end_took : WroteWithin (length entry) (answered_text (ended f p)) 0 entry exit r.written
+  end_took = within_same (ap (λ (x : Fed). x.text) taken ∙ append-nil (answered_text (ended f p))) t.wrote
+
+  -- and the day is the one after it.
+  pub end_ended : (s : Session) → day_farm s ≡ f → pending_of s.rest ≡ p → ends_line p (length entry) ≡ true → Ended (length entry) s day
+  end_ended s a b e = record {
+    farm = λ _. t.farm ∙ ap (λ (x : Fed). x.farm) taken ∙ sym (ap₂ (λ (g : Farm) (q : Pending). (ended g q).farm) a b);
+    pending = λ _. t.pending ∙ ap (λ (x : Fed). x.pending) taken;
+    same = λ n. absurd (false≢true (sym n ∙ ap (λ (q : Pending). ends_line q (length entry)) b ∙ e));
+  }

@@ -1,5 +1,5 @@
 -- What commands and queries print and leave, a clock move's answer and the records that it is lent, for src/blocks.rt.
-use Rattle.std.specs.Prelude.{◌≡◌, refl, List, [], ◌++◌, map, ℕ, ◌+◌, ◌≤◌, ◌<◌, length, take, Result, Ok}
+use Rattle.std.specs.Prelude.{◌≡◌, refl, List, [], ◌++◌, map, ℕ, ◌+◌, ◌≤◌, ◌<◌, length, take, Result, true, is_ok}
 use Rattle.std.proofs.Common.{ap, ap₂, sym, subst, ◌∙◌, arith, length-append}
 use Rattle.std.proofs.lemmas.List.{length-map}
 use Rattle.lists.specs.Laws.{All}
@@ -15,7 +15,7 @@ use Rattle.answers.specs.declared.Question.{Question}
 use Rattle.planner.specs.declared.Move.{Move}
 use Rattle.planner.specs.Model.{Farm, Sized}
 use Rattle.planner.specs.Call.{offer, quote, withdraw, account, reply, handed}
-use Rattle.planner.specs.Calls.{Said, said, told}
+use Rattle.planner.specs.Calls.{Said, said}
 use Rattle.planner.specs.Parts.{CellsSized}
 use Rattle.planner.specs.Clock.{move_said, move_lines}
 use Rattle.planner.specs.ClockSteps.{Begins, MoveDecides, begins_places, begins_sends, begins_lines, begins_count, move_taken}
@@ -66,12 +66,12 @@ unfolding chunk_texts
 clock_plain f t s none e = ap answer_text e ∙ sym (ap (λ (l : List Chunk). chunk_texts l ++ answer_text (move_said f t lent)) none)
 
 -- A move that is granted, and what it begins.
-module _ (f : Farm) (t : ℕ) (r : Move) (sized : Sized f) (b : Begins f t r.due) (x : MoveDecides f t lent (Ok r)) where
+module _ (f : Farm) (t : ℕ) (r : Move) (sized : Sized f) (b : Begins f t r.due) (x : MoveDecides f t lent r) (g : is_ok r.answer ≡ true) where
   abbrev named : List Job
   named = in_order f.jobs (take r.due.count r.due.keys)
 
   few : length (lines_of_all f.costs named) ≤ lent
-  few = omega (arith, ap length (begins_lines f t r.due sized b), (move_taken f t lent r x).2)
+  few = omega (arith, ap length (begins_lines f t r.due sized b), (move_taken f t lent r x g).2)
 
   counted : length (lines_of_all f.costs named) ≡ r.due.lines
   counted = ap length (begins_lines f t r.due sized b) ∙ begins_count f t r.due sized b
@@ -92,8 +92,8 @@ module _ (f : Farm) (t : ℕ) (r : Move) (sized : Sized f) (b : Begins f t r.due
 
   -- The lines in the records, and then the answer, are what the move prints.
   pub clock_text : (rows rest : List (List ℕ)) → rows ≡ map chunk_row (lines_of_all f.costs named) ++ rest
-      → row_texts (take r.due.lines rows) ++ answer_text (told r.answer) ≡ chunk_texts (move_lines f t lent) ++ answer_text (move_said f t lent)
+      → row_texts (take r.due.lines rows) ++ answer_text (said r.answer) ≡ chunk_texts (move_lines f t lent) ++ answer_text (move_said f t lent)
   clock_text rows rest e =
       ap₂ (λ (y z : List ℕ). y ++ z)
-      (front_texts (lines_of_all f.costs named) rest rows r.due.lines e counted ∙ ap chunk_texts (begins_lines f t r.due sized b ∙ sym (move_taken f t lent r x).1))
+      (front_texts (lines_of_all f.costs named) rest rows r.due.lines e counted ∙ ap chunk_texts (begins_lines f t r.due sized b ∙ sym (move_taken f t lent r x g).1))
       (ap answer_text x.says)

@@ -1,5 +1,5 @@
 -- What the functions promise: a line, a block, the end of the input.
-use Rattle.std.specs.Prelude.{◌≡◌, List, [], cond, ℕ, ◌+◌, ◌≤◌, ◌<◌, Bool, leb, length, replicate, Option, None}
+use Rattle.std.specs.Prelude.{◌≡◌, List, [], cond, ℕ, ◌+◌, ◌≤◌, ◌<◌, Bool, true, false, not, ◌&&◌, leb, length, replicate, Option, None}
 use Rattle.walk.specs.Model.{no_chunk}
 use Rattle.planner.specs.Model.{Farm, meant}
 use Rattle.planner.specs.Call.{move}
@@ -8,9 +8,9 @@ use Rattle.protocol.specs.declared.Progress.{Progress}
 use Rattle.protocol.specs.declared.Session.{Session}
 use Rattle.lines.specs.declared.Order.{Order}
 use Rattle.lines.specs.Orders.{order_turn}
-use Rattle.lines.specs.Model.{lent, Answered, answered_text, called, Pending, feed, at_end}
+use Rattle.lines.specs.Model.{lent, Answered, answered_text, called, Pending, part, ended, feed, at_end}
 use Rattle.lines.specs.Feeding.{stretch}
-use Rattle.lines.specs.Rows.{pending_of}
+use Rattle.lines.specs.Rows.{pending_of, none_pending}
 use Rattle.lines.specs.AnswerLines.{largest}
 
 -- the farm of a day
@@ -44,3 +44,13 @@ pub record Took (f : Farm) (p : Pending) (block : List ℕ) (from : ℕ) (entry 
 -- the end of the input; nothing is written where the room may not hold the answer
 abbrev pub end_text : Farm → Pending → ℕ → List ℕ
 end_text f p room = cond (leb largest room) (at_end f p) []
+
+-- whether a line ends there and is answered: something is pending, and the room may hold the answer
+abbrev pub ends_line : Pending → ℕ → Bool
+ends_line p room = leb largest room && not (none_pending p)
+
+-- the end of the input of a day s, which leaves the day t: the day after the line that ends there, else the very day
+pub record Ended (room : ℕ) (s t : Session) : Type 0 where
+  pub farm : ends_line (pending_of s.rest) room ≡ true → day_farm t ≡ (ended (day_farm s) (pending_of s.rest)).farm
+  pub pending : ends_line (pending_of s.rest) room ≡ true → pending_of t.rest ≡ part []
+  pub same : ends_line (pending_of s.rest) room ≡ false → t ≡ s

@@ -5,11 +5,11 @@ ghost use Rattle.planner.specs.Passes.{passes_of};
 ghost use Rattle.planner.specs.Call.{reply, handed};
 ghost use Rattle.planner.specs.Calls.{said, unopened};
 ghost use Rattle.text.specs.Writing.{WroteWithin};
-ghost use Rattle.lines.specs.Model.{part};
+ghost use Rattle.lines.specs.Model.{part, opening_with};
 ghost use Rattle.lines.specs.Orders.{command_call, query_call, order_of};
-ghost use Rattle.lines.specs.Rows.{pending_of, FarmRow, by_row};
+ghost use Rattle.lines.specs.Rows.{pending_of, allowances_in, FarmRow, by_row};
 ghost use Rattle.lines.specs.AnswerLines.{largest};
-ghost use Rattle.protocol.specs.Promises.{day_farm, order_kept, moving, Puts, Took, end_text};
+ghost use Rattle.protocol.specs.Promises.{day_farm, order_kept, moving, Puts, Took, Ended, end_text};
 ghost use Rattle.protocol.specs.Reachable.{Reachable};
 
 use crate::{Progress, Session};
@@ -85,6 +85,18 @@ impl Session {
         }
     }
 
+    // Opens the farm of a row. Apart from the lines of other orders: at each of them its figures would be set to 0.
+    fn opened(&mut self, row: Row) -> Answer
+        requires { (6 ≤ row.count) × (row.count ≤ 39) }
+        ensures says { said result ≡ (opening_with row.numbers (allowances_in row)).said }
+        ensures farm { day_farm self.new ≡ (opening_with row.numbers (allowances_in row)).farm }
+        ensures rest { self.new.rest ≡ self.old.rest }
+    {
+        let opening = opening(row);
+        self.farm.figures = opening.figures;
+        opening.answer
+    }
+
     // Moves the clock. It writes the lines that begin and the answer at place `at`, and answers the place behind them.
     fn put_clock(&mut self, time: u64, out: &mut [u8], at: usize) -> usize
         requires reached { Reachable (day_farm self.old) }
@@ -93,14 +105,14 @@ impl Session {
         ensures { Puts (moving (day_farm self.old) time) at out.old out.new result self.old self.new }
     {
         let farm = &mut self.farm;
-        let step = match move_unchecked(farm, time, 1024) {
-            Ok(step) => step,
-            Err(question) => return put_answer(out, at, Err(question)),
-        };
+        let step = move_unchecked(farm, time, 1024);
+        if step.answer.is_err() {
+            return put_answer(out, at, step.answer);
+        }
         let due = step.due;
         if due.count == 0 {
             farm.figures.clock = time;
-            return put_answer(out, at, Ok(step.answer));
+            return put_answer(out, at, step.answer);
         }
         write_rows(
             &mut self.rows,
@@ -110,7 +122,7 @@ impl Session {
             &due.keys[..due.count],
         );
         moved(farm, due, time);
-        put_move(out, at, &self.rows[..due.lines], Ok(step.answer))
+        put_move(out, at, &self.rows[..due.lines], step.answer)
     }
 
     // Answers the line of a row at place `at`, and answers the place behind the answer. A line that cannot be read, or
@@ -128,11 +140,7 @@ impl Session {
             Order::Query(query) => self.told(query),
             Order::Command(command) => self.decided(command),
             Order::Clock(time) => return self.put_clock(time, out, at),
-            Order::Open => {
-                let opening = opening(row);
-                self.farm.figures = opening.figures;
-                opening.answer
-            }
+            Order::Open => self.opened(row),
         };
         put_answer(out, at, answer)
     }
@@ -160,11 +168,12 @@ impl Session {
         Progress { next, written: at }
     }
 
-    // The end of the input: what is pending is a line if it is not empty. It writes nothing where `out` may not hold
-    // the answer.
+    // The end of the input: what is pending is a line if it is not empty. Where it is, or where `out` may not hold the
+    // answer, nothing is written and the day stays as it is.
     pub fn end_of_input(&mut self, out: &mut [u8]) -> usize
         requires { Reachable (day_farm self.old) }
-        ensures { WroteWithin (length out.old) (end_text (day_farm self.old) (pending_of self.old.rest) (length out.old)) 0 out.old out.new result }
+        ensures day { Ended (length out.old) self.old self.new }
+        ensures wrote { WroteWithin (length out.old) (end_text (day_farm self.old) (pending_of self.old.rest) (length out.old)) 0 out.old out.new result }
     {
         if out.len() < 180400 || self.rest.is_empty() {
             return 0;

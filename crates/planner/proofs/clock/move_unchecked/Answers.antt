@@ -10,13 +10,6 @@ use Rattle.timetable.specs.DueSteps.{due_front}
 use Rattle.planner.specs.ClockSteps.{due_asked, decides_untimely, decides_unheld, decides_granted}
 use Rattle.planner.proofs.clock.move_unchecked.Goals as goal
 
-pub returns-then-not-contains : goal.returns-then-not-contains
-returns-then-not-contains c =
-    let a = c.args in
-    let time : between a.farm.now.figures.clock a.time greatest ≡ false = search rules in
-    let z = parts_sized a.farm.now.figures a.farm.now.cells.nodes a.farm.now.cells.shares c.whole.ensures.0 c.whole.ensures.1 in
-    decides_untimely (meant a.farm.now) a.time a.room z c.requires time
-
 pub shared_ref_as_front-due : goal.shared_ref_as_front-due
 shared_ref_as_front-due c = (passes_within (meant c.args.farm.now) c.requires).waiting
 
@@ -25,6 +18,17 @@ due-due-requires c =
     let a = c.args in
     let z = parts_sized a.farm.now.figures a.farm.now.cells.nodes a.farm.now.cells.shares c.whole.ensures.0 c.whole.ensures.1 in
     due_asked (meant a.farm.now) z c.requires a.farm.now.cells.nodes a.farm.now.cells.shares a.farm.now.figures.jobs refl
+
+pub returns-then-not-contains : goal.returns-then-not-contains
+returns-then-not-contains c =
+    let d = c.due-due in
+    let a = c.args in
+    let f = meant a.farm.now in
+    let time : between a.farm.now.figures.clock a.time greatest ≡ false = search rules in
+    let z = parts_sized a.farm.now.figures a.farm.now.cells.nodes a.farm.now.cells.shares c.whole.ensures.0 c.whole.ensures.1 in
+    let few = (passes_within f c.requires).waiting in
+    let due = due_front a.farm.now.cells.nodes a.farm.now.cells.shares a.farm.now.figures.jobs a.farm.now.figures.waiting a.time d.result (omega (arith, few, c.whole.ensures.0.jobs)) (d.ensures a.farm.now.cells.nodes a.farm.now.cells.shares) in
+    decides_untimely f a.time a.room d.result z (record { passes = c.requires; due = due }) time
 
 pub returns-then-room-due : goal.returns-then-room-due
 returns-then-room-due c =

@@ -38,8 +38,8 @@ pub returns-in-Clock : goal.returns-in-Clock
 returns-in-Clock c =
     puts_same (by_order (day_farm c.args.self.now) c.args.row c.order_in_turn.ensures (c.in-Some.is ∙ ap Some c.in-Clock.is)) c.put_clock.ensures
 
-pub opening-opening-requires : goal.opening-opening-requires
-opening-opening-requires c =
+pub opened-answer-requires : goal.opened-answer-requires
+opened-answer-requires c =
     c.requires.farm (open_kind c.args.row.kind _ _ (order_told (day_farm c.args.self.now) c.args.row c.order_in_turn.ensures (c.in-Some.is ∙ ap Some c.in-Open.is)))
 
 pub returns : goal.returns
@@ -60,7 +60,7 @@ returns c =
           puts_same (by_order f row is (c.in-Some.is ∙ ap Some w.in-Command.is))
           (put_one (command_text f w.in-Command.command (ap said w.answer-is ∙ told.says)) put (ap day_farm w.self-is ∙ told.farm) (ap rest w.self-is ∙ told.rest))
       | in-Open w ↦
-          let told = w.opening-opening.ensures in
+          let told = w.opened-answer.ensures in
           puts_same (by_order f row is (c.in-Some.is ∙ ap Some w.in-Open.is))
-          (put_one (opening_text row.numbers (allowances_in row) (ap said w.answer-is ∙ told.says)) put (ap day_farm w.self-is ∙ told.means _ _) (ap rest w.self-is))
+          (put_one (opening_text row.numbers (allowances_in row) (ap said w.answer-is ∙ told.says)) put (ap day_farm w.self-is ∙ told.farm) (ap rest w.self-is ∙ told.rest))
     ]
