@@ -1,9 +1,9 @@
 -- What the functions answer, where they answer: `answers c n` says that there is a send cost and that n is at most 64.
-use Rattle.std.specs.Prelude.{◌≡◌, ℕ, zero, suc, ◌+◌, ◌-◌, ◌<◌, ◌≤◌, Bool, true, false, ◌&&◌, Some, None, List, [], ◌∷◌, ◌++◌, nat_le, refl}
-use Rattle.std.proofs.Common.{ap, ◌∙◌, arith, add-one, sub-one, le-leb, leb-true, append_assoc, append-nil}
+use Rattle.std.specs.Prelude.{◌≡◌, ℕ, zero, suc, ◌+◌, ◌-◌, ◌<◌, ◌≤◌, Bool, true, false, ◌&&◌, Some, None, List, [], ◌∷◌, ◌++◌, length, take, drop, replicate, nat_le, slice_set, refl}
+use Rattle.std.proofs.Common.{ap, ◌∙◌, arith, add-one, sub-one, le-leb, leb-true, append_assoc, append-nil, take-append-drop, length-take-le, take-suc-set, drop-set-lt, drop-drop}
 use Rattle.std.proofs.lemmas.Bool.{false≢true}
 use Rattle.shares.specs.declared.Costs.{Costs}
-use Rattle.shares.specs.Model.{first, left, left_after, capacity, cut, greedy, fewest, earliest, answers, fewest_of, earliest_of, shares_of}
+use Rattle.shares.specs.Model.{first, left, left_after, capacity, cut, greedy, fewest, earliest, answers, fewest_of, earliest_of, stored, shares_of}
 use Rattle.shares.specs.Capacity.{capacity_snoc, first_none, none_fits}
 use Rattle.shares.specs.Least.{IsFewest, fewest_is, fewest_nodes, fewest_none, earliest_is, earliest_short}
 
@@ -70,13 +70,27 @@ earliest_beyond c n z w e h k =
 
 -- ---- The shares
 
-pub shares_answer : (c : Costs) (n w : ℕ) → answers c n ≡ true → shares_of c n w ≡ greedy c n w
+pub shares_answer : (c : Costs) (n w : ℕ) → answers c n ≡ true → shares_of c n w ≡ stored (greedy c n w)
 unfolding shares_of
 shares_answer c n w e = rw e
 
-pub shares_refused : (c : Costs) (n w : ℕ) → answers c n ≡ false → shares_of c n w ≡ []
+pub shares_refused : (c : Costs) (n w : ℕ) → answers c n ≡ false → shares_of c n w ≡ stored []
 unfolding shares_of
 shares_refused c n w e = rw e
+
+-- A list at the front of an array of 64 that is 0 behind it.
+pub stored_front : (xs ys : List ℕ) (k : ℕ) → length ys ≡ 64 → k ≤ 64 → xs ≡ take k ys → drop k ys ≡ replicate (64 - k) 0
+    → stored xs ≡ record { units = ys; count = k }
+unfolding stored
+stored_front xs ys k l h q d =
+    let n : length xs ≡ k = ap length q ∙ length-take-le k ys (omega arith) in
+    rw (n, ← d, q, take-append-drop)
+
+-- One more share at its end.
+pub stored_more : (ys : List ℕ) (k a : ℕ) → length ys ≡ 64 → k < 64 → drop k ys ≡ replicate (64 - k) 0 → drop (k + 1) (slice_set ys k a) ≡ replicate (64 - (k + 1)) 0
+stored_more ys k a l h d =
+    let e : 64 - k ≡ suc (64 - (k + 1)) = omega arith in
+    rw (drop-set-lt (k + 1) ys k a (omega arith), ← drop-drop 1 k ys, d, e)
 
 uncut : (a : ℕ) → 1 ≤ a → (xs : List ℕ) → cut a xs ≡ a ∷ xs
 unfolding cut
@@ -98,13 +112,15 @@ pub greedy_no_node : (c : Costs) (n w : ℕ) → n ≡ 0 → greedy c n w ≡ []
 unfolding greedy
 greedy_no_node c n w e = rw e
 
--- One more share behind those that are found.
-pub greedy_more : (c : Costs) (n w k v : ℕ) (xs : List ℕ) → k < n → 1 ≤ first c v → greedy c n w ≡ xs ++ greedy c (n - k) v
-    → greedy c n w ≡ (xs ++ first c v ∷ []) ++ greedy c (n - (k + 1)) (left c v (first c v))
-greedy_more c n w k v xs h some q =
+-- One more share at the end of those that are stored.
+pub greedy_more : (c : Costs) (n w k v : ℕ) (ys : List ℕ) → k < n → k < length ys → 1 ≤ first c v → greedy c n w ≡ take k ys ++ greedy c (n - k) v
+    → greedy c n w ≡ take (k + 1) (slice_set ys k (first c v)) ++ greedy c (n - (k + 1)) (left c v (first c v))
+greedy_more c n w k v ys h l some q =
     let e : n - (k + 1) ≡ n - k - 1 = omega arith in
-    rw (e, append_assoc, ← greedy_next c (n - k) v (omega arith) some) q
+    rw (e, add-one k, take-suc-set ys k (first c v) l, append_assoc, ← greedy_next c (n - k) v (omega arith) some) q
 
--- Shares to which the greedy list adds nothing are the answer.
-pub greedy_whole : (c : Costs) (n w m v : ℕ) (xs : List ℕ) → answers c n ≡ true → greedy c n w ≡ xs ++ greedy c m v → greedy c m v ≡ [] → shares_of c n w ≡ xs
-greedy_whole c n w m v xs e q stop = shares_answer c n w e ∙ q ∙ ap (λ (x : List ℕ). xs ++ x) stop ∙ append-nil xs
+-- Shares to which the greedy list adds nothing are stored as they are.
+pub greedy_whole : (c : Costs) (n w k m v : ℕ) (ys : List ℕ) → answers c n ≡ true → length ys ≡ 64 → k ≤ 64 → drop k ys ≡ replicate (64 - k) 0
+    → greedy c n w ≡ take k ys ++ greedy c m v → greedy c m v ≡ [] → shares_of c n w ≡ record { units = ys; count = k }
+greedy_whole c n w k m v ys e l h d q stop =
+    shares_answer c n w e ∙ stored_front (greedy c n w) ys k l h (q ∙ ap (λ (x : List ℕ). take k ys ++ x) stop ∙ append-nil (take k ys)) d

@@ -1,9 +1,10 @@
 -- The meaning of the share arithmetic, in the words and the order of document 01, "One job on n nodes".
 -- Everything here is a definition; nothing is assumed.
 -- `-` stops at 0 and `/` rounds down, so no case is needed where not even one unit fits.
-use Rattle.std.specs.Prelude.{ℕ, zero, suc, ◌+◌, ◌-◌, ◌*◌, ◌/◌, max, Bool, cond, ◌&&◌, Option, Some, None, List, [], ◌∷◌, nat_le}
+use Rattle.std.specs.Prelude.{ℕ, zero, suc, ◌+◌, ◌-◌, ◌*◌, ◌/◌, max, Bool, cond, ◌&&◌, Option, Some, None, List, [], ◌∷◌, ◌++◌, length, replicate, nat_le}
 use Rattle.std.specs.Option.{option_or}
 use Rattle.shares.specs.declared.Costs.{Costs}
+use Rattle.shares.specs.declared.Shares.{Shares}
 use Rattle.shares.specs.declared.Share.{Share}
 
 -- ---- One list of shares, its sends back to back
@@ -89,5 +90,9 @@ fewest_of c n z w = cond (answers c n) (fewest c n z w) None
 unfoldable pub earliest_of : Costs → ℕ → ℕ → ℕ → ℕ
 earliest_of c n z w = cond (answers c n) (earliest c n z w) w
 
-unfoldable pub shares_of : Costs → ℕ → ℕ → List ℕ
-shares_of c n w = cond (answers c n) (greedy c n w) []
+-- a share list in an array of 64, with its count
+unfoldable pub stored : List ℕ → Shares
+stored xs = record { units = xs ++ replicate (64 - length xs) 0; count = length xs }
+
+unfoldable pub shares_of : Costs → ℕ → ℕ → Shares
+shares_of c n w = stored (cond (answers c n) (greedy c n w) [])

@@ -7,8 +7,6 @@ ghost use Rattle.std.specs.Prelude.{◌≡◌, ◌+◌, ◌-◌, ◌^◌, ◌<�
 ghost use Rattle.shares.specs.Model.{send_end, chunk_finish, first, answers, next_of, fewest_of, earliest, earliest_of, shares_of};
 ghost use Rattle.shares.specs.Slack.{costs_of, Found};
 
-use arrayvec::ArrayVec;
-
 // Ticks: to send a unit (document 01's m), to compute a unit (p), to set up a send on the link (ST), to
 // set up a node (SC). The functions over them are no methods: other crates and the pages call them by their names.
 #[derive(Clone, Copy)]
@@ -24,6 +22,13 @@ pub struct Costs {
 pub struct Share {
     pub units: u64,
     pub left: u64,
+}
+
+// A share list: its first `count` units, and 0 behind them. It is no ArrayVec of the kit's, since it can be copied.
+#[derive(Clone, Copy)]
+pub struct Shares {
+    pub units: [u64; 64],
+    pub count: usize,
 }
 
 // Whether the functions below answer for these costs and this many nodes: there is a send cost, so that no
@@ -301,21 +306,24 @@ pub fn earliest_finish(costs: Costs, nodes: usize, size: u64, window: u64) -> u6
 
 // The shares with which the nodes hold what a window can hold: each node in turn the largest that fits.
 #[tactic(auto, using(crate::proofs::Steps::greedy), unfolding(crate::specs::Model::next_of))]
-pub fn greedy_shares(costs: Costs, nodes: usize, window: u64) -> ArrayVec<u64, 64>
-    ensures { result.items ≡ shares_of costs nodes window }
+pub fn greedy_shares(costs: Costs, nodes: usize, window: u64) -> Shares
+    ensures { result ≡ shares_of costs nodes window }
 {
-    let mut shares = ArrayVec::new();
+    let mut units = [0u64; 64];
     if !answerable(costs, nodes) {
-        return shares;
+        return Shares { units, count: 0 };
     }
     let mut left = window;
-    for _ in 0..nodes {
+    for count in 0..nodes {
         let share = next_share(costs, left);
         if share.units == 0 {
-            return shares;
+            return Shares { units, count };
         }
-        shares.push(share.units);
+        units[count] = share.units;
         left = share.left;
     }
-    shares
+    Shares {
+        units,
+        count: nodes,
+    }
 }

@@ -2,7 +2,7 @@
 // window: its letter, then the fewest nodes, the earliest finish on them and the shares, or "none".
 #![tactic(auto)]
 
-use shares::Costs;
+use shares::{Costs, Shares};
 use std::io;
 
 // A to E: no setups.
@@ -38,8 +38,8 @@ fn check_counts() {
     prove!(even_count == Some(3));
 }
 
-fn put_shares(rt: &impl Print, shares: &[u64]) -> io::Result<()> {
-    for units in shares {
+fn put_shares(rt: &impl Print, shares: Shares) -> io::Result<()> {
+    for units in shares.units.iter().take(shares.count) {
         print!(rt; "\t{units}")?;
     }
     Ok(())
@@ -58,7 +58,7 @@ fn try_window(
         Some(count) => {
             let finish = shares::earliest_finish(costs, count, size, window);
             print!(rt; "\t{count}\t{finish}")?;
-            put_shares(rt, &shares::greedy_shares(costs, count, finish))?;
+            put_shares(rt, shares::greedy_shares(costs, count, finish))?;
         }
         None => print!(rt; "\tnone")?,
     }
