@@ -1,12 +1,13 @@
 -- What a block leaves of a day: the farm and the pending line are those of feeding all of it, however often its answers
 -- were written on the way.
-use Rattle.std.specs.Prelude.{◌≡◌, refl, List, [], ℕ, Result, Ok, Err, IsOk, IsErr, ◌+◌, ◌-◌, ◌≤◌, ◌<◌, length, take, drop}
+use Rattle.std.specs.Prelude.{◌≡◌, refl, List, [], ℕ, Result, Ok, Err, IsOk, ◌+◌, ◌-◌, ◌≤◌, ◌<◌, length, take, drop}
 use Rattle.std.proofs.Common.{ap, ap₂, sym, subst, ◌∙◌, zero-le, arith, take_all}
 use Rattle.std.proofs.Math.Nat.{sub-zero}
 use Rattle.std.proofs.Math.Decide.{dec_le}
 use Rattle.std.proofs.lemmas.Bool.{false≢true}
 use Rattle.std.specs.Result.{MatchResult}
 use Rattle.planner.specs.Model.{Farm}
+use Rattle.feeding.specs.declared.GivenUp.{GivenUp}
 use Rattle.protocol.specs.declared.Session.{Session}
 use Rattle.protocol.specs.declared.Progress.{Progress}
 use Rattle.lines.specs.Model.{Pending, Fed, behind, feed}
@@ -25,26 +26,21 @@ pub record Leaves (f : Farm) (p : Pending) (bytes : List ℕ) (t : Session) : Ty
 pub leaves_reachable : (f : Farm) (p : Pending) (bytes : List ℕ) (t : Session) → Leaves f p bytes t → Reachable f → Reachable (day_farm t)
 leaves_reachable f p bytes t x r = subst Reachable (sym x.farm) (feed_reachable f p bytes r)
 
--- a place of the block up to which it was fed: not its start, where an answer has room
-pub record GivenUp (f : Farm) (p : Pending) (block : List ℕ) (room : ℕ) (t : Session) : Type 0 where
-  pub next : ℕ
+-- the day is that of feeding a block up to a place, so much room being lent for answers: not its start, where an answer
+-- has room
+pub record FedTo (f : Farm) (p : Pending) (block : List ℕ) (room next : ℕ) (t : Session) : Type 0 where
   pub day : Leaves f p (stretch 0 next block) t
   pub some : largest ≤ room → 0 < next
 
 -- what comes of a block, so much room being lent for answers: where all answers could be written the day is that of
--- feeding it, and otherwise that of feeding it up to a place: it gives up only behind answers that it handed on
-abbrev pub Answers : {E : Type 0} → Farm → Pending → List ℕ → ℕ → Result Unit E → Session → Type 0
-Answers f p block room r t = MatchResult r (λ _. Leaves f p block t) (λ _. GivenUp f p block room t)
-
--- It is given up with an error.
-pub given_up : {E : Type 0} (f : Farm) (p : Pending) (block : List ℕ) (room : ℕ) (r : Result Unit E) (t : Session) → IsErr r → GivenUp f p block room t → Answers f p block room r t
-given_up f p block room (Ok u) t e x = absurd (false≢true e)
-given_up f p block room (Err q) t e x = x
+-- feeding it, and otherwise that of feeding it up to the place told: it gives up only behind answers that it handed on
+abbrev pub Answers : Farm → Pending → List ℕ → ℕ → Result Unit GivenUp → Session → Type 0
+Answers f p block room r t = MatchResult r (λ _. Leaves f p block t) (λ g. FedTo f p block room g.next t)
 
 -- Either way a farm that was reachable still is.
-pub answers_reachable : {E : Type 0} (f : Farm) (p : Pending) (block : List ℕ) (room : ℕ) (r : Result Unit E) (t : Session) → Answers f p block room r t → Reachable f → Reachable (day_farm t)
+pub answers_reachable : (f : Farm) (p : Pending) (block : List ℕ) (room : ℕ) (r : Result Unit GivenUp) (t : Session) → Answers f p block room r t → Reachable f → Reachable (day_farm t)
 answers_reachable f p block room (Ok u) t x h = leaves_reachable f p block t x h
-answers_reachable f p block room (Err q) t x h = leaves_reachable f p (stretch 0 x.next block) t x.day h
+answers_reachable f p block room (Err g) t x h = leaves_reachable f p (stretch 0 g.next block) t x.day h
 
 -- Nothing has been fed yet.
 pub fed_start : (s : Session) (block : List ℕ) → Leaves (day_farm s) (pending_of s.rest) (stretch 0 0 block) s
@@ -69,7 +65,7 @@ fed_all f p block i t x h =
     subst (λ (l : List ℕ). Leaves f p l t) (ap (λ (n : ℕ). take n block) (sub-zero i) ∙ take_all i block h) x
 
 -- A block whose answers could all be written leaves the day of feeding all of it.
-pub answers_all : {E : Type 0} (f : Farm) (p : Pending) (block : List ℕ) (room : ℕ) (r : Result Unit E) (t : Session) → Answers f p block room r t → IsOk r → Leaves f p block t
+pub answers_all : (f : Farm) (p : Pending) (block : List ℕ) (room : ℕ) (r : Result Unit GivenUp) (t : Session) → Answers f p block room r t → IsOk r → Leaves f p block t
 answers_all f p block room (Ok u) t x e = x
 answers_all f p block room (Err u) t x e = absurd (false≢true e)
 
@@ -88,9 +84,8 @@ took_some f p block i entry exit r t k h room = elim (dec_le r.next i) [ no d �
 
 -- So it may be given up there.
 pub took_given : (f : Farm) (p : Pending) (block : List ℕ) (s : Session) (i : ℕ) (entry exit : List ℕ) (r : Progress) (t : Session) (room : ℕ) → Leaves f p (stretch 0 i block) s
-    → Took (day_farm s) (pending_of s.rest) block i entry exit r t → i < length block → room ≡ length entry → GivenUp f p block room t
+    → Took (day_farm s) (pending_of s.rest) block i entry exit r t → i < length block → room ≡ length entry → FedTo f p block room r.next t
 took_given f p block s i entry exit r t room x k h e = record {
-  next = r.next;
   day = fed_more f p block s i entry exit r t x k;
   some = λ g. let on = took_some (day_farm s) (pending_of s.rest) block i entry exit r t k h (omega (arith, e, g)) in omega arith;
 }

@@ -10,7 +10,7 @@ ghost use Rattle.feeding.specs.Fed.{Answers};
 
 use protocol::Session;
 use std::fmt;
-use std::io::{self, ErrorKind, Read, Write};
+use std::io::{self, Read, Write};
 
 // What ends a day early.
 #[derive(Clone, Copy)]
@@ -34,6 +34,12 @@ fn hand_on<W: Write>(output: &mut W, answers: &[u8]) -> io::Result<()> {
     output.flush()
 }
 
+// A block that was given up: it was answered up to the place `next`.
+#[derive(Clone, Copy)]
+struct GivenUp {
+    next: usize,
+}
+
 // Answers a block. The answers are handed to the output at its end, and before it where `out` is full. It gives up only
 // behind answers that could not be written, or where `out` has no room for an answer.
 fn answer_all<W: Write>(
@@ -41,16 +47,15 @@ fn answer_all<W: Write>(
     day: &mut Session,
     block: &[u8],
     out: &mut [u8],
-) -> io::Result<()>
+) -> Result<(), GivenUp>
     requires { Reachable (day_farm day.old) }
     ensures { Answers (day_farm day.old) (pending_of day.old.rest) block.now (length out.old) result day.new }
 {
     let mut next = 0;
     while next < block.len() {
         let done = day.answer_block(block, next, out);
-        hand_on(output, &out[..done.written])?;
-        if done.next == next {
-            return Err(ErrorKind::WriteZero.into());
+        if hand_on(output, &out[..done.written]).is_err() || done.next == next {
+            return Err(GivenUp { next: done.next });
         }
         next = done.next;
     }

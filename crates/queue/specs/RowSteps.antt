@@ -1,4 +1,4 @@
--- Entries moved up with their rows, as the jobs that they mean: the steps of the loops that leave jobs out.
+-- Entries moved up with their rows, as the jobs that they mean, place by place.
 use Rattle.std.specs.Prelude.{◌≡◌, List, ◌∷◌, ℕ, ◌+◌, ◌≤◌, ◌<◌, length, get_or, take, drop, set}
 use Rattle.std.proofs.Common.{ap, sym, subst, ◌∙◌, arith, length-set}
 use Rattle.lists.specs.Laws.{All, all_front}

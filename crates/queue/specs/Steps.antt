@@ -1,4 +1,4 @@
--- A number's place among jobs, and an array of jobs without the one of a number: the steps of the loops that look for them.
+-- A number's place among jobs, and an array of jobs without the one of a number, place by place.
 use Rattle.std.specs.Prelude.{◌≡◌, refl, List, [], ◌∷◌, ◌++◌, Bool, true, false, cond, ℕ, suc, ◌+◌, ◌≤◌, ◌<◌, eqb, length, get_or, take, drop, set}
 use Rattle.std.proofs.Common.{ap, sym, subst, ◌∙◌, arith, add-one}
 use Rattle.std.proofs.lemmas.Bool.{false≢true}

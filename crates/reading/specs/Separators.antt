@@ -1,9 +1,9 @@
 -- A field as it is searched for, up to the next tab or newline. A line has no newline; where one is read that has, its field goes on to the next tab and
 -- is no number and no kind's word, so the line is of another shape.
-use Rattle.std.specs.Prelude.{Option, Some, None, ℕ, suc, ◌+◌, ◌-◌, ◌<◌, ◌≡◌, refl, List, [], ◌∷◌, Bool, true, false, cond, ◌&&◌, ◌||◌, leb, eqb, length, get_or, take, drop}
+use Rattle.std.specs.Prelude.{Option, Some, None, ℕ, suc, ◌+◌, ◌-◌, ◌<◌, ◌≡◌, refl, List, [], ◌∷◌, Bool, true, false, cond, not, ◌&&◌, ◌||◌, leb, eqb, length, get_or, take, drop}
 use Rattle.std.proofs.Common.{sym, ap, ◌∙◌, arith, ne_eqb, eqb-true, get_or-drop}
 use Rattle.std.proofs.Math.Bool.{and-false}
-use Rattle.std.proofs.lemmas.Bool.{lt-leb, eqb-false}
+use Rattle.std.proofs.lemmas.Bool.{lt-leb, eqb-false, not-true, not-false}
 use Rattle.search.specs.Model.{this, either, before, next_place}
 use Rattle.text.specs.Model.{tab, newline}
 use Rattle.reading.specs.declared.Kind.{Kind}
@@ -11,9 +11,32 @@ use Rattle.reading.specs.declared.Kind.TheVariants as kind
 use Rattle.reading.specs.Model.{same, all_digits, kind_word, kinds, kind_among, kind_of, readable, row_with, row_of}
 use Rattle.reading.specs.Steps.{fields_cut, behind, behind_next, gathered, gathered_end}
 
--- where the field from a place on ends; none where that is at a newline
-abbrev pub field_from : List ℕ → ℕ → Option ℕ
-field_from xs from = cond (eqb (get_or xs (next_place (either tab newline) xs from) 0) newline) None (Some (next_place (either tab newline) xs from))
+-- a field as it is searched for: where it ends, and whether that is not at a newline
+pub record Field : Type 0 where
+  pub end : ℕ
+  pub whole : Bool
+
+-- the field from a place on
+abbrev pub field_from : List ℕ → ℕ → Field
+field_from xs from = record { end = next_place (either tab newline) xs from; whole = not (eqb (get_or xs (next_place (either tab newline) xs from) 0) newline) }
+
+-- what is answered of it: where it ends; none at a newline
+abbrev pub end_of : Field → Option ℕ
+end_of r = cond r.whole (Some r.end) None
+
+pub end_known : (r : Field) (e : ℕ) → Some e ≡ end_of r → (r.whole ≡ true) × (r.end ≡ e)
+end_known r e h = go r.whole refl h
+  where
+    go : (w : Bool) → r.whole ≡ w → Some e ≡ cond w (Some r.end) None → (r.whole ≡ true) × (r.end ≡ e)
+    go true q h = (q, cc)
+    go false q h = cc
+
+pub end_none : (r : Field) → None ≡ end_of r → r.whole ≡ false
+end_none r h = go r.whole refl h
+  where
+    go : (w : Bool) → r.whole ≡ w → None ≡ cond w (Some r.end) None → r.whole ≡ false
+    go true q h = cc
+    go false q h = q
 
 -- the byte where a field from the start ends; 0 at the line's end
 abbrev stop_of : List ℕ → ℕ
@@ -34,19 +57,15 @@ unfolding before
 before_tab [] e = refl
 before_tab (x ∷ xs) e = tab_step (eqb x tab) (eqb x newline) x xs refl (before_tab xs) e
 
-whole_step : (t : Bool) (n e : ℕ) → Some e ≡ cond t None (Some n) → (t ≡ false) × (e ≡ n)
-whole_step true n e h = cc
-whole_step false n e h = (refl, cc)
-
-broken_test : (t : Bool) (n : ℕ) → None ≡ cond t None (Some n) → t ≡ true
-broken_test true n h = refl
-broken_test false n h = cc
-
 -- A whole field is the one that `fields` gives.
-pub field_whole : (xs : List ℕ) (from e : ℕ) → Some e ≡ field_from xs from → e ≡ next_place (this tab) xs from
-field_whole xs from e h =
-    let w = whole_step _ _ e h in
-    w.1 ∙ ap (λ (n : ℕ). from + n) (before_tab (drop from xs) (rw get_or-drop w.0))
+pub field_whole : (xs : List ℕ) (from : ℕ) (r : Field) → r ≡ field_from xs from → r.whole ≡ true → r.end ≡ next_place (this tab) xs from
+field_whole xs from r h e =
+    let w : (field_from xs from).whole ≡ true = rw h at e in
+    ap (λ (x : Field). x.end) h ∙ ap (λ (n : ℕ). from + n) (before_tab (drop from xs) (rw get_or-drop (not-true _ w)))
+
+-- So is one that is answered with its end.
+pub field_known : (xs : List ℕ) (from e : ℕ) → Some e ≡ end_of (field_from xs from) → e ≡ next_place (this tab) xs from
+field_known xs from e h = let k = end_known (field_from xs from) e h in sym k.1 ∙ field_whole xs from (field_from xs from) refl k.0
 
 -- ---- A field with a newline
 
@@ -108,19 +127,20 @@ unfolding kind_among
 broken_kind [] w h = refl
 broken_kind (k ∷ ks) w h = rw (broken_same w (kind_word k) h (word_whole k)) (broken_kind ks w h)
 
-field_broken : (xs : List ℕ) (from : ℕ) → None ≡ field_from xs from → Broken (take (before (this tab) (drop from xs)) (drop from xs))
-field_broken xs from h = before_newline (drop from xs) (rw get_or-drop (broken_test _ _ h))
+field_broken : (xs : List ℕ) (from : ℕ) (r : Field) → r ≡ field_from xs from → r.whole ≡ false → Broken (take (before (this tab) (drop from xs)) (drop from xs))
+field_broken xs from r h e = let w : (field_from xs from).whole ≡ false = rw h at e in before_newline (drop from xs) (rw get_or-drop (not-false _ w))
 
 -- ---- A line
 
 -- A line whose first field ends at a newline cannot be read.
-pub row_broken : (xs : List ℕ) → None ≡ field_from xs 0 → row_of xs ≡ row_with kind.Unreadable []
+pub row_broken : (xs : List ℕ) (r : Field) → r ≡ field_from xs 0 → r.whole ≡ false → row_of xs ≡ row_with kind.Unreadable []
 unfolding row_of readable kind_of
-row_broken xs h = rw (fields_cut xs, broken_kind kinds (take (before (this tab) xs) xs) (field_broken xs 0 h))
+row_broken xs r h e = rw (fields_cut xs, broken_kind kinds (take (before (this tab) xs) xs) (field_broken xs 0 r h e))
 
--- A field that ends at a newline is no number.
-pub gathered_broken : (c : ℕ) (out xs : List ℕ) (i : ℕ) → i < length xs → None ≡ field_from xs (i + 1) → gathered c out (behind (drop i xs)) ≡ None
-gathered_broken c out xs i h w =
+-- A field that ends at a newline is the first that is no number.
+pub gathered_broken : (c : ℕ) (out xs : List ℕ) (i : ℕ) (r : Field) → i < length xs → r ≡ field_from xs (i + 1) → r.whole ≡ false
+    → gathered c out (behind (drop i xs)) ≡ record { known = false; count = c; numbers = out }
+gathered_broken c out xs i r h w e =
     let n = before (this tab) (drop (i + 1) xs) in
     let z : i + 1 + n - (i + 1) ≡ n = omega arith in
-    gathered_end c out (behind (drop i xs)) _ _ (behind_next xs i (i + 1 + n) h refl) (rw (z, broken_digits (take n (drop (i + 1) xs)) (field_broken xs (i + 1) w), and-false))
+    gathered_end c out (behind (drop i xs)) _ _ (behind_next xs i (i + 1 + n) h refl) (rw (z, broken_digits (take n (drop (i + 1) xs)) (field_broken xs (i + 1) r w e), and-false))

@@ -20,7 +20,7 @@ use Rattle.reading.specs.Model.{same, kind_word, kinds, kind_among, on_first, fi
 -- ---- The same bytes
 
 -- It is what `==` of two slices answers.
-same_is : (xs ys : List ℕ) → same xs ys ≡ pointwise eqb xs ys
+pub same_is : (xs ys : List ℕ) → same xs ys ≡ pointwise eqb xs ys
 unfolding same
 same_is [] [] = refl
 same_is [] (y ∷ ys) = refl
@@ -117,39 +117,60 @@ some_true : {X : Type 0} (t : Bool) (x y : X) → Some y ≡ cond t (Some x) Non
 some_true true x y e = (refl, cc)
 some_true false x y e = cc
 
--- the numbers of fields, stored from place c on; none where a field is no number
-unfoldable pub gathered : ℕ → List ℕ → List (List ℕ) → Option Numbers
-gathered c out [] = Some (record { count = c; numbers = out })
-gathered c out (f ∷ fs) = cond (is_number f) (gathered (suc c) (set out c (value f)) fs) None
+-- fields read as numbers up to the first that is none: whether all are numbers, how many come before it, and these
+pub record Gathered : Type 0 where
+  pub known : Bool
+  pub count : ℕ
+  pub numbers : List ℕ
+
+-- the numbers of fields, stored from place c on, up to the first that is none
+unfoldable pub gathered : ℕ → List ℕ → List (List ℕ) → Gathered
+gathered c out [] = record { known = true; count = c; numbers = out }
+gathered c out (f ∷ fs) = cond (is_number f) (gathered (suc c) (set out c (value f)) fs) (record { known = false; count = c; numbers = out })
+
+-- what is answered of them: none where a field is no number
+abbrev pub answer_of : Gathered → Option Numbers
+answer_of g = cond g.known (Some (record { count = g.count; numbers = g.numbers })) None
 
 module _ (c : ℕ) (out : List ℕ) (fs : List (List ℕ)) (f : List ℕ) (gs : List (List ℕ)) (e : fs ≡ f ∷ gs) where
   pub gathered_more : (v : ℕ) (next : List ℕ) → Some v ≡ number_in f → next ≡ set out c v → gathered c out fs ≡ gathered (c + 1) next gs
   unfolding gathered
   gathered_more v next d s = let t = some_true (is_number f) (value f) v d in rw (add-one, s, e, t.0, t.1)
 
-  pub gathered_end : is_number f ≡ false → gathered c out fs ≡ None
+  pub gathered_end : is_number f ≡ false → gathered c out fs ≡ record { known = false; count = c; numbers = out }
   unfolding gathered
   gathered_end t = rw (e, t)
 
-  pub gathered_stop : None ≡ number_in f → gathered c out fs ≡ None
+  pub gathered_stop : None ≡ number_in f → gathered c out fs ≡ record { known = false; count = c; numbers = out }
   gathered_stop d = gathered_end (none_false (is_number f) (value f) d)
 
-pub gathered_none : (c : ℕ) (out : List ℕ) (fs : List (List ℕ)) → fs ≡ [] → gathered c out fs ≡ Some (record { count = c; numbers = out })
+pub gathered_none : (c : ℕ) (out : List ℕ) (fs : List (List ℕ)) → fs ≡ [] → gathered c out fs ≡ record { known = true; count = c; numbers = out }
 unfolding gathered
 gathered_none c out fs e = rw e
 
 -- What is gathered, as a whole.
-all_step : (t u : Bool) (r : Option Numbers) (x : Numbers) → r ≡ cond u (Some x) None → cond t r None ≡ cond (t && u) (Some x) None
-all_step true u r x e = e
-all_step false u r x e = refl
+known_step : (t : Bool) (c : ℕ) (out : List ℕ) (f : List ℕ) (fs : List (List ℕ)) → (gathered (suc c) (set out c (value f)) fs).known ≡ all_numbers fs
+    → (cond t (gathered (suc c) (set out c (value f)) fs) (record { known = false; count = c; numbers = out })).known ≡ t && all_numbers fs
+known_step true c out f fs h = h
+known_step false c out f fs h = refl
 
-pub gathered_is : (c : ℕ) (out : List ℕ) (fs : List (List ℕ))
-    → gathered c out fs ≡ cond (all_numbers fs) (Some (record { count = c + length fs; numbers = sets out c (map value fs) })) None
+pub gathered_known : (c : ℕ) (out : List ℕ) (fs : List (List ℕ)) → (gathered c out fs).known ≡ all_numbers fs
 unfolding gathered all_numbers
-gathered_is c out [] = let n : c + 0 ≡ c = omega arith in rw n
-gathered_is c out (f ∷ fs) =
+gathered_known c out [] = refl
+gathered_known c out (f ∷ fs) = known_step (is_number f) c out f fs (gathered_known (suc c) (set out c (value f)) fs)
+
+all_step : (t : Bool) (c : ℕ) (out : List ℕ) (f : List ℕ) (fs : List (List ℕ)) (r : Gathered) → (all_numbers fs ≡ true → gathered (suc c) (set out c (value f)) fs ≡ r) → t && all_numbers fs ≡ true
+    → cond t (gathered (suc c) (set out c (value f)) fs) (record { known = false; count = c; numbers = out }) ≡ r
+all_step true c out f fs r h e = h e
+all_step false c out f fs r h e = absurd (let z : ◌≡◌ {A = ℕ} 0 1 = cc in omega arith)
+
+pub gathered_all : (c : ℕ) (out : List ℕ) (fs : List (List ℕ)) → all_numbers fs ≡ true
+    → gathered c out fs ≡ record { known = true; count = c + length fs; numbers = sets out c (map value fs) }
+unfolding gathered all_numbers
+gathered_all c out [] e = let n : c + 0 ≡ c = omega arith in rw n
+gathered_all c out (f ∷ fs) e =
     let n : c + suc (length fs) ≡ suc c + length fs = omega arith in
-    all_step (is_number f) (all_numbers fs) _ _ (rw n (gathered_is (suc c) (set out c (value f)) fs))
+    all_step (is_number f) c out f fs _ (λ k. rw n (gathered_all (suc c) (set out c (value f)) fs k)) e
 
 -- ---- A row
 
@@ -176,20 +197,27 @@ module _ (xs : List ℕ) (e : ℕ) (cut : e ≡ 0 + before (this tab) xs) where
   others_are : others_of (fields xs) ≡ behind (drop e xs)
   others_are = rw (fields_cut xs, at_tab)
 
+  known_is : all_numbers (behind (drop e xs)) ≡ (gathered 0 (replicate 39 0) (behind (drop e xs))).known
+  known_is = sym (gathered_known 0 (replicate 39 0) (behind (drop e xs)))
+
   -- A field is no number.
-  pub row_unknown : None ≡ gathered 0 (replicate 39 0) (behind (drop e xs)) → row_of xs ≡ row_with kind.Unreadable []
+  pub row_unknown : None ≡ answer_of (gathered 0 (replicate 39 0) (behind (drop e xs))) → row_of xs ≡ row_with kind.Unreadable []
   unfolding row_of readable
   row_unknown g =
-      let u : all_numbers (behind (drop e xs)) ≡ false = none_false _ _ (g ∙ gathered_is 0 (replicate 39 0) (behind (drop e xs))) in
+      let u : all_numbers (behind (drop e xs)) ≡ false = known_is ∙ none_false _ _ g in
       rw (others_are, u, and-false)
 
-  module _ (k : Kind) (x : Numbers) (word : k ≡ kind_of (take e xs)) (all : Some x ≡ gathered 0 (replicate 39 0) (behind (drop e xs))) where
+  module _ (k : Kind) (x : Numbers) (word : k ≡ kind_of (take e xs)) (all : Some x ≡ answer_of (gathered 0 (replicate 39 0) (behind (drop e xs)))) where
     first_is : line_kind xs ≡ k
     first_is = rw (fields_cut xs, at_tab) (sym word)
 
     all_are : (all_numbers (behind (drop e xs)) ≡ true)
         × (x ≡ record { count = 0 + length (behind (drop e xs)); numbers = sets (replicate 39 0) 0 (map value (behind (drop e xs))) })
-    all_are = some_true _ _ x (all ∙ gathered_is 0 (replicate 39 0) (behind (drop e xs)))
+    all_are =
+        let s = some_true _ _ x all in
+        let u = known_is ∙ s.0 in
+        let g = gathered_all 0 (replicate 39 0) (behind (drop e xs)) u in
+        (u, s.1 ∙ ap (λ (y : Gathered). record { count = y.count; numbers = y.numbers }) g)
 
     count_is : length (behind (drop e xs)) ≡ x.count
     count_is = let n : x.count ≡ 0 + length (behind (drop e xs)) = ap (λ (y : Numbers). y.count) all_are.1 in omega arith

@@ -5,8 +5,8 @@
 
 ghost use Rattle.std.specs.Prelude.{◌≡◌, [], ◌≤◌, length, drop, replicate, IfSome};
 ghost use Rattle.reading.specs.Model.{kind_of, fits, row_with, row_of};
-ghost use Rattle.reading.specs.Separators.{field_from};
-ghost use Rattle.reading.specs.Steps.{number_in, behind, gathered};
+ghost use Rattle.reading.specs.Separators.{field_from, end_of};
+ghost use Rattle.reading.specs.Steps.{number_in, behind, gathered, answer_of};
 
 use search::next_of;
 
@@ -44,7 +44,7 @@ struct Numbers {
 #[tactic(auto, using(search::specs::Laws::next_within))]
 fn field_from(line: &[u8], from: usize) -> Option<usize>
     requires { from ≤ length line.now }
-    ensures place { result ≡ field_from line.now from }
+    ensures place { result ≡ end_of (field_from line.now from) }
     ensures within { IfSome result (λ end. (from ≤ end) × (end ≤ length line.now)) }
 {
     let end = next_of(line, from, b'\t', b'\n');
@@ -116,7 +116,7 @@ fn digits(field: &[u8]) -> Option<u64>
 // counted and not kept.
 fn gather(line: &[u8], from: usize) -> Option<Numbers>
     requires { from ≤ length line.now }
-    ensures { result ≡ gathered 0 (replicate 39 0) (behind (drop from line.now)) }
+    ensures { result ≡ answer_of (gathered 0 (replicate 39 0) (behind (drop from line.now))) }
 {
     let mut numbers = [0u64; 39];
     let mut count = 0;

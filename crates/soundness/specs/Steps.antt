@@ -215,7 +215,7 @@ eqb_swap a b = go (eqb b a) refl
     go false e = ne_eqb a b (λ q. false≢true (sym e ∙ eq-eqb b a (sym q)))
 
 -- A number is none of a list, or the list contains it.
-none_any : (x : ℕ) (ys : List ℕ) → none_of x ys ≡ not (list_any (λ (y : ℕ). eqb y x) ys)
+pub none_any : (x : ℕ) (ys : List ℕ) → none_of x ys ≡ not (list_any (λ (y : ℕ). eqb y x) ys)
 unfolding none_of
 none_any x [] = refl
 none_any x (y ∷ ys) = rw (none_any x ys, eqb_swap x y) (go (eqb y x) (list_any (λ (y : ℕ). eqb y x) ys))
@@ -235,9 +235,9 @@ unfolding all_differ
 differ_more [] h e = absurd (omega arith)
 differ_more (x ∷ xs) h e = rw (none_any x xs, e)
 
--- All of what lies behind the first.
-pub part_rest : (xs : List ℕ) → take (length xs - 1) (drop 1 xs) ≡ drop 1 xs
-part_rest xs = take_all (length xs - 1) (drop 1 xs) (omega (arith, length-drop 1 xs))
+-- All of what lies behind a place.
+pub part_rest : (xs : List ℕ) (k : ℕ) → take (length xs - k) (drop k xs) ≡ drop k xs
+part_rest xs k = take_all (length xs - k) (drop k xs) (omega (arith, length-drop k xs))
 
 pub differ_none : (xs : List ℕ) → length xs < 1 → all_differ xs ≡ true
 unfolding all_differ
@@ -298,8 +298,11 @@ module _ (c : FarmCosts) (j : Job) (w : ChunkTerms) (times now : FreeTimes) (t :
 -- ---- The jobs by their starts
 
 module _ (c : FarmCosts) (b : FreeTimes) (jobs : List Job) (keys : List Key) (i : ℕ) (h : i < length keys) (inside : All (Inside (length jobs)) keys) where
-  key_inside : (get_or keys i no_key).place < length jobs
+  pub key_inside : (get_or keys i no_key).place < length jobs
   key_inside = all_nth no_key (Inside (length jobs)) keys i inside h
+
+  pub key_bounded : All (Bounded c) jobs → Bounded c (get_or jobs (get_or keys i no_key).place no_job)
+  key_bounded a = all_nth no_job (Bounded c) jobs (get_or keys i no_key).place a key_inside
 
   -- The next job's spans come before those of the others, which need only fit behind what it leaves.
   pub turn_next : (r : Option FreeTimes) → FitResult c b (get_or jobs (get_or keys i no_key).place no_job) r

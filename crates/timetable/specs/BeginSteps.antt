@@ -56,6 +56,10 @@ module _ (jobs : List Job) (n i : ℕ) (h : i < n) (f : n ≤ length jobs) where
   abbrev jobs_next : drop i (take n jobs) ≡ get_or jobs i no_job ∷ drop (i + 1) (take n jobs)
   jobs_next = front_next no_job jobs n i h f
 
+  pub chunks_next : chunks (drop i (take n jobs)) ≡ (get_or jobs i no_job).booking.count + chunks (drop (i + 1) (take n jobs))
+  unfolding chunks
+  chunks_next = rw jobs_next
+
   -- It waits on, or has begun.
   pub keep_next : (t : ℕ) → t < (get_or jobs i no_job).booking.start
       → keep (starts_after t) (drop i (take n jobs)) ≡ get_or jobs i no_job ∷ keep (starts_after t) (drop (i + 1) (take n jobs))

@@ -93,11 +93,11 @@ module _ (keys : List Key) (k : ℕ) (h : k < length keys) where
 
   module _ (jobs : List Job) (j : Job) (q : get_or jobs place no_job ≡ j) where
     -- The job that it names is followed by those of the keys after it.
-    named_next : in_order jobs (drop k keys) ≡ j ∷ in_order jobs (drop (k + 1) keys)
+    pub named_next : in_order jobs (drop k keys) ≡ j ∷ in_order jobs (drop (k + 1) keys)
     named_next = ap (in_order jobs) (rw (← add-one k) at (drop-cons keys k no_key h)) ∙ ap (λ (a : Job). a ∷ in_order jobs (drop (k + 1) keys)) q
 
     -- What holds of all named jobs holds of it.
-    named_all : (P : Job → Type 0) → All P (in_order jobs keys) → P j
+    pub named_all : (P : Job → Type 0) → All P (in_order jobs keys) → P j
     named_all P a = subst P q (all_nth no_key (λ (x : Key). P (get_or jobs x.place no_job)) keys k (image_all P (λ (x : Key). get_or jobs x.place no_job) keys a) h)
 
   -- Of a queue it names an entry with its row.
