@@ -172,6 +172,24 @@ module _ (F : Figures) (ks xs : List ℕ) (h : QueueEntry) (o : Offered (farm_of
     front : take n (jobs_of pks pxs plans) ≡ plan_of
     front = w.jobs_are ∙ sym plan_is
 
+    module _ (place : ℕ) (inside : place < F.waiting + 1) where
+      -- A job there is that of the plan,
+      there : job_at pks pxs place (get_or plans place no_entry) ≡ get_or plan_of place no_job
+      there =
+          sym (job_there pks pxs plans place (omega (arith, inside, o.waiting, w.size)))
+          ∙ sym (get_or-take n (jobs_of pks pxs plans) place no_job inside)
+          ∙ ap (λ (js : List Job). get_or js place no_job) front
+
+      -- and its chunks can be worked out.
+      pub planned_sends : Sendable F.costs (job_at pks pxs place (get_or plans place no_entry))
+      planned_sends =
+          let g = passes_within f o.passes in
+          let ready = walk_ready f (bare h) o in
+          let queue = by_deadline (waiting_of f ++ bare h ∷ []) in
+          let feasible = books_feasible (walk_terms_of f) (free_times_of f) queue ready.answered (omega (arith, g.nodes.1, z.free)) (all_map (λ x a. a.0) queue ready.jobs) books in
+          subst (Sendable F.costs) (sym there)
+          (all_nth no_job (Sendable F.costs) plan_of place (plan_sends (walk_terms_of f) (free_times_of f) queue g.nodes.1 g.costs z.free ready.jobs feasible) (omega (arith, inside, count)))
+
     module _ (place : ℕ) (at : place_of h.number (take n (jobs_of pks pxs plans)) ≡ place) where
       at_plan : place ≡ place_of h.number plan_of
       at_plan = sym at ∙ ap (place_of h.number) front
@@ -179,30 +197,17 @@ module _ (F : Figures) (ks xs : List ℕ) (h : QueueEntry) (o : Offered (farm_of
       within : place_of h.number plan_of < length plan_of
       within = has_place h.number plan_of (planned_has (walk_terms_of f) (free_times_of f) (waiting_of f) (bare h))
 
-      -- The number stands in the plan.
+      -- The number stands in the plan,
       pub new_within : place < F.waiting + 1
       new_within = omega (arith, at_plan, within, count)
 
-      -- The job there is that of the plan,
-      there : job_at pks pxs place (get_or plans place no_entry) ≡ get_or plan_of place no_job
-      there =
-          sym (job_there pks pxs plans place (omega (arith, new_within, o.waiting, w.size)))
-          ∙ sym (get_or-take n (jobs_of pks pxs plans) place no_job new_within)
-          ∙ ap (λ (js : List Job). get_or js place no_job) front
-
-      -- which is the job of the new number.
+      -- and the job there is the job of the new number.
       new_at : job_at pks pxs place (get_or plans place no_entry) ≡ of_number h.number plan_of
-      new_at = there ∙ ap (λ (k : ℕ). get_or plan_of k no_job) at_plan ∙ place_job h.number plan_of within
+      new_at = there place new_within ∙ ap (λ (k : ℕ). get_or plan_of k no_job) at_plan ∙ place_job h.number plan_of within
 
       -- Its chunks can be worked out.
       pub new_sends : Sendable F.costs (job_at pks pxs place (get_or plans place no_entry))
-      new_sends =
-          let g = passes_within f o.passes in
-          let ready = walk_ready f (bare h) o in
-          let queue = by_deadline (waiting_of f ++ bare h ∷ []) in
-          let feasible = books_feasible (walk_terms_of f) (free_times_of f) queue ready.answered (omega (arith, g.nodes.1, z.free)) (all_map (λ x a. a.0) queue ready.jobs) books in
-          subst (Sendable F.costs) (sym there)
-          (all_nth no_job (Sendable F.costs) plan_of place (plan_sends (walk_terms_of f) (free_times_of f) queue g.nodes.1 g.costs z.free ready.jobs feasible) (omega (arith, at_plan, within)))
+      new_sends = planned_sends place new_within
 
       -- All are booked, and the new job is told.
       pub walk_accepts : (a : Granted) → told a ≡ yes_of F.costs (job_at pks pxs place (get_or plans place no_entry))

@@ -85,7 +85,7 @@ impl Session {
         }
     }
 
-    // Opens the farm of a row. Apart from the lines of other orders: at each of them its figures would be set to 0.
+    // Opens the farm of a row. A method of its own: in `put_line` every line would set the memory of an opening to 0.
     fn opened(&mut self, row: Row) -> Answer
         requires { (6 ≤ row.count) × (row.count ≤ 39) }
         ensures says { said result ≡ (opening_with row.numbers (allowances_in row)).said }
@@ -168,8 +168,8 @@ impl Session {
         Progress { next, written: at }
     }
 
-    // The end of the input: what is pending is a line if it is not empty. Where it is, or where `out` may not hold the
-    // answer, nothing is written and the day stays as it is.
+    // The end of the input: what is pending is a line if it is not empty. Where it is empty, or where `out` may not hold
+    // the answer, nothing is written and the day stays as it is.
     pub fn end_of_input(&mut self, out: &mut [u8]) -> usize
         requires { Reachable (day_farm self.old) }
         ensures day { Ended (length out.old) self.old self.new }

@@ -9,7 +9,7 @@ use Rattle.text.specs.Model.{tab, newline}
 use Rattle.reading.specs.declared.Kind.{Kind}
 use Rattle.reading.specs.declared.Kind.TheVariants as kind
 use Rattle.reading.specs.Model.{same, all_digits, kind_word, kinds, kind_among, kind_of, readable, row_with, row_of}
-use Rattle.reading.specs.Steps.{fields_cut, behind, behind_next, gathered, gathered_end}
+use Rattle.reading.specs.Steps.{fields_cut, behind, behind_next, none_false, some_true, gathered, gathered_end}
 
 -- a field as it is searched for: where it ends, and whether that is not at a newline
 pub record Field : Type 0 where
@@ -25,18 +25,10 @@ abbrev pub end_of : Field → Option ℕ
 end_of r = cond r.whole (Some r.end) None
 
 pub end_known : (r : Field) (e : ℕ) → Some e ≡ end_of r → (r.whole ≡ true) × (r.end ≡ e)
-end_known r e h = go r.whole refl h
-  where
-    go : (w : Bool) → r.whole ≡ w → Some e ≡ cond w (Some r.end) None → (r.whole ≡ true) × (r.end ≡ e)
-    go true q h = (q, cc)
-    go false q h = cc
+end_known r e h = let t = some_true r.whole r.end e h in (t.0, sym t.1)
 
 pub end_none : (r : Field) → None ≡ end_of r → r.whole ≡ false
-end_none r h = go r.whole refl h
-  where
-    go : (w : Bool) → r.whole ≡ w → None ≡ cond w (Some r.end) None → r.whole ≡ false
-    go true q h = cc
-    go false q h = q
+end_none r h = none_false r.whole r.end h
 
 -- the byte where a field from the start ends; 0 at the line's end
 abbrev stop_of : List ℕ → ℕ

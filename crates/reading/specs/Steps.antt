@@ -109,11 +109,11 @@ behind_none xs i e = rw (e, drop-length xs)
 -- ---- The numbers of a line
 
 -- What a test with one answer says of it.
-none_false : {X : Type 0} (t : Bool) (x : X) → None ≡ cond t (Some x) None → t ≡ false
+pub none_false : {X : Type 0} (t : Bool) (x : X) → None ≡ cond t (Some x) None → t ≡ false
 none_false true x e = cc
 none_false false x e = refl
 
-some_true : {X : Type 0} (t : Bool) (x y : X) → Some y ≡ cond t (Some x) None → (t ≡ true) × (y ≡ x)
+pub some_true : {X : Type 0} (t : Bool) (x y : X) → Some y ≡ cond t (Some x) None → (t ≡ true) × (y ≡ x)
 some_true true x y e = (refl, cc)
 some_true false x y e = cc
 

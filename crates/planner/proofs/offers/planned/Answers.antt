@@ -1,7 +1,8 @@
 -- `offers::planned` meets its contract: the walk, and the new job found in its plan.
 use mathlib.Core.Path.{ap, sym, ◌∙◌}
+use native.Mathlib.Omega.{arith}
 use Rattle.planner.specs.Calls.{yes_of}
-use Rattle.planner.specs.OfferSteps.{queued_ready, walk_refuses, new_found, new_place, new_sends, walk_accepts}
+use Rattle.planner.specs.OfferSteps.{queued_ready, walk_refuses, new_found, new_place, new_within, planned_sends, walk_accepts}
 use Rattle.planner.proofs.offers.planned.Goals as goal
 
 pub walked-requires : goal.walked-requires
@@ -30,8 +31,9 @@ yes-requires c =
     let z = c.whole.ensures.0 in
     let at = new_place a.farm.now.figures a.farm.now.cells.nodes a.farm.now.cells.shares a.job c.requires z c.in-Some.jobs _ _ w
     c.unwrap-place.result (sym c.place_of.ensures ∙ c.unwrap-place.ensures) in
+    let inside = new_within a.farm.now.figures a.farm.now.cells.nodes a.farm.now.cells.shares a.job c.requires z c.in-Some.jobs _ _ w c.unwrap-place.result at in
     rw c.job_at-told.ensures
-    (new_sends a.farm.now.figures a.farm.now.cells.nodes a.farm.now.cells.shares a.job c.requires z c.in-Some.jobs _ _ w c.unwrap-place.result at)
+    (planned_sends a.farm.now.figures a.farm.now.cells.nodes a.farm.now.cells.shares a.job c.requires z c.in-Some.jobs _ _ w _ (omega (arith, inside)))
 
 pub returns : goal.returns
 returns c =
